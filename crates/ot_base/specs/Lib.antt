@@ -1,0 +1,6 @@
+pub mod Address
+pub mod Hash
+pub mod Minute
+pub mod Order
+pub mod Refusal
+pub mod Same
