@@ -3,6 +3,7 @@ use Rattle.std.specs.Prelude.{◌≡◌, ℕ, Bool, false, List, [], ◌∷◌, 
 use Rattle.std.specs.List.{starts_with}
 use Rattle.ot_base.specs.declared.address.Addr.{Addr}
 use Rattle.ot_base.specs.declared.address.Addr.TheVariants.{V4, V6}
+use Rattle.ot_base.specs.declared.address.Endpoint.{Endpoint}
 use Rattle.ot_base.specs.declared.address.Family.{Family}
 use Rattle.ot_base.specs.declared.address.Family.TheVariants.{Four, Six}
 
@@ -30,3 +31,11 @@ family_of (V6 bytes) = Six
 abbrev pub IsRead : Addr → Type 0
 IsRead (V4 bytes) = Unit {0}
 IsRead (V6 bytes) = is_mapped bytes ≡ false
+
+-- the unspecified IPv4 address, 0.0.0.0
+abbrev pub unspecified : Addr
+unspecified = V4 (0 ∷ 0 ∷ 0 ∷ 0 ∷ [])
+
+-- no peer has this endpoint
+abbrev pub no_endpoint : Endpoint
+no_endpoint = record { addr = unspecified; port = 0 }

@@ -1,7 +1,7 @@
 //! Addresses and endpoints.
 
 ghost use Rattle.std.specs.Prelude.{◌≡◌};
-ghost use Rattle.ot_base.specs.Address.{address_of_six, wide_bytes, family_of};
+ghost use Rattle.ot_base.specs.Address.{address_of_six, wide_bytes, family_of, unspecified, no_endpoint};
 
 /// What an IPv4-mapped IPv6 address begins with.
 const MAPPED_FRONT: [u8; 12] = [0, 0, 0, 0, 0, 0, 0, 0, 0, 0, 255, 255];
@@ -66,6 +66,8 @@ impl Addr {
 
 /// The unspecified IPv4 address, 0.0.0.0.
 impl Default for Addr {
+    ghost is_default = { λ a. a ≡ unspecified };
+
     fn default() -> Self {
         Addr::V4([0; 4])
     }
@@ -73,6 +75,8 @@ impl Default for Addr {
 
 /// The unspecified IPv4 address with port 0, which no peer has.
 impl Default for Endpoint {
+    ghost is_default = { λ e. e ≡ no_endpoint };
+
     fn default() -> Self {
         Endpoint {
             addr: Addr::default(),

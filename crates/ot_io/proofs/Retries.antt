@@ -1,0 +1,35 @@
+-- A read and a write after tries that were interrupted: those left the known bytes as they were.
+use Rattle.std.proofs.Common.{◌≡◌, ℕ, List, Some, None, Result, Ok, Err, ◌∙◌, ◌++◌, sym, take, subst}
+use Rattle.std.proofs.KnownBytes.{Keeps-trans}
+use Rattle.std.specs.Prelude.{Option, IsErr}
+use Rattle.std.specs.Io.KnownBytes.{Keeps, Appends, Consumes, ReadConsumes, WriteAppends}
+
+pub Keeps-Consumes : (a b c : Option (List ℕ)) (bs : List ℕ) → Keeps a b → Consumes b c bs → Consumes a c bs
+Keeps-Consumes None b c bs p q = tt
+Keeps-Consumes (Some x) None c bs p q = absurd p
+Keeps-Consumes (Some x) (Some y) None bs p q = absurd q
+Keeps-Consumes (Some x) (Some y) (Some z) bs p q = sym p ∙ q
+
+pub Keeps-Appends : (a b c : Option (List ℕ)) (bs : List ℕ) → Keeps a b → Appends b c bs → Appends a c bs
+Keeps-Appends None b c bs p q = tt
+Keeps-Appends (Some x) None c bs p q = absurd p
+Keeps-Appends (Some x) (Some y) None bs p q = absurd q
+Keeps-Appends (Some x) (Some y) (Some z) bs p q = subst (λ (l : List ℕ). z ≡ l ++ bs) p q
+
+pub Keeps-ReadConsumes : {E : Type 0} (a b c : Option (List ℕ)) (r : Result ℕ E) (buf : List ℕ) → Keeps a b → ReadConsumes b c r buf → ReadConsumes a c r buf
+Keeps-ReadConsumes a b c (Ok n) buf p q = (Keeps-Consumes a b c (take n buf) p q.0, q.1)
+Keeps-ReadConsumes a b c (Err e) buf p q = Keeps-trans a b c p q
+
+pub Keeps-WriteAppends : {E : Type 0} (a b c : Option (List ℕ)) (r : Result ℕ E) (buf : List ℕ) → Keeps a b → WriteAppends b c r buf → WriteAppends a c r buf
+Keeps-WriteAppends a b c (Ok n) buf p q = Keeps-Appends a b c (take n buf) p q
+Keeps-WriteAppends a b c (Err e) buf p q = Keeps-trans a b c p q
+
+-- what failed left the known bytes as they were
+
+pub Keeps-from_failed_read : {E : Type 0} (b c : Option (List ℕ)) (r : Result ℕ E) (buf : List ℕ) → IsErr r → ReadConsumes b c r buf → Keeps b c
+Keeps-from_failed_read b c (Ok n) buf failed q = cc
+Keeps-from_failed_read b c (Err e) buf failed q = q
+
+pub Keeps-from_failed_write : {E : Type 0} (b c : Option (List ℕ)) (r : Result ℕ E) (buf : List ℕ) → IsErr r → WriteAppends b c r buf → Keeps b c
+Keeps-from_failed_write b c (Ok n) buf failed q = cc
+Keeps-from_failed_write b c (Err e) buf failed q = q

@@ -1,0 +1,9 @@
+pub mod Adapters
+pub mod Content
+pub mod Counts
+pub mod Demand
+pub mod Memory
+pub mod Message
+pub mod Pieces
+pub mod Status
+pub mod Writes

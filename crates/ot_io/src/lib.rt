@@ -1,0 +1,26 @@
+//! The outside of the tracker: where bytes come from and go to, how a run ends, and its settings.
+//!
+//! Each object of the outside counts its faults, and a source also its ends. An answer that blames the
+//! outside comes only where that count rose, so a caller's contract can say whose fault it was.
+#![tactic(auto)]
+
+mod faults;
+pub mod mem_sink;
+pub mod mem_source;
+pub mod message;
+pub mod settings;
+pub mod sink;
+pub mod source;
+pub mod status;
+pub mod std_streams;
+#[cfg(test)]
+mod tests;
+
+pub use mem_sink::MemSink;
+pub use mem_source::MemSource;
+pub use message::report;
+pub use settings::ReplaySettings;
+pub use sink::{Sink, Wrote, send_all};
+pub use source::{Piece, Source};
+pub use status::{LineFault, Status};
+pub use std_streams::{StdSink, StdSource};

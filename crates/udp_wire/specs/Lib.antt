@@ -1,0 +1,2 @@
+pub mod ConnectionId
+pub mod Packets
