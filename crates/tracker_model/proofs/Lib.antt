@@ -1,0 +1,13 @@
+pub mod Cases
+pub mod KnownLemmas
+pub mod LiveLemmas
+pub mod OutboxLemmas
+pub mod StepLemmas
+pub mod EntryLemmas
+pub mod StandsLemmas
+pub mod CountLemmas
+pub mod KeyedLemmas
+pub mod LawLemmas
+pub mod PairLemmas
+pub mod RowLemmas
+pub mod JudgedLemmas

@@ -1,0 +1,15 @@
+pub mod Calls
+pub mod Counted
+pub mod Entries
+pub mod Examples
+pub mod Judged
+pub mod Known
+pub mod Legal
+pub mod Live
+pub mod Outbox
+pub mod Reports
+pub mod Right
+pub mod Settings
+pub mod Shape
+pub mod Stands
+pub mod Steps
