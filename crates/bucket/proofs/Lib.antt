@@ -1,0 +1,10 @@
+pub mod AnnounceLaw
+pub mod Families
+pub mod Joining
+pub mod KeptLemmas
+pub mod Keyed
+pub mod Places
+pub mod RightLemmas
+pub mod ToldLemmas
+pub mod TorrentLemmas
+pub mod TidyLaw

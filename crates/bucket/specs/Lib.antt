@@ -1,0 +1,4 @@
+pub mod Announces
+pub mod Joins
+pub mod Peers
+pub mod Torrents
