@@ -1,19 +1,19 @@
 #!/usr/bin/env bash
-# How fast the built program replays a trace, and with how much memory: records a second in three runs, the time
-# as a ratio to `wc -l` on the same file, and the peak memory at a tenth of the records and at all of them.
-#   bench/replay.sh [RECORDS]
+# How fast the built program replays a trace, and with how much memory.
+#   bench/replay.sh [CONNECTS [ANNOUNCES [SWARM]]]    how many records of each kind, at first 1000000 1000000 60000
+# It prints records a second in three runs (one for the big swarm), the time as a ratio to `wc -l` on the same file, for
+# announces the ratio to the connects' records a second, the peak memory, and the bytes of it a stored peer.
 set -euo pipefail
 cd "$(dirname "$0")/.."
-records=${1:-1000000}
+connects=${1:-1000000} announces=${2:-1000000} swarm=${3:-60000}
 work=$(mktemp -d)
 trap 'rm -rf "$work"' EXIT
 ./opentracker replay </dev/null
+program=crates/opentracker/out/opentracker
 
 # Seconds and peak memory in KiB of a command with this input.
 measure() {
-    local input=$1
-    shift
-    python3 - "$input" "$@" <<'PY'
+    python3 - "$@" <<'PY'
 import os, resource, subprocess, sys, time
 start = time.monotonic()
 with open(sys.argv[1], "rb") as trace, open(os.devnull, "wb") as nothing:
@@ -24,14 +24,29 @@ print(f"{seconds:.6f} {resource.getrusage(resource.RUSAGE_CHILDREN).ru_maxrss}")
 PY
 }
 
-program=crates/opentracker/out/opentracker
-for count in $((records / 10)) "$records"; do
-    trace=$work/connects.$count
-    python3 bench/traces.py connects "$count" >"$trace"
+# replay KIND RECORDS RUNS PEERS: sets `rate` and `peak`, of the last run.
+replay() {
+    local trace=$work/trace lines seconds run
+    python3 bench/traces.py "$1" "$2" >"$trace"
     lines=$(measure "$trace" wc -l | cut -d' ' -f1)
-    for run in 1 2 3; do
-        read -r seconds memory < <(measure "$trace" "$program" replay)
-        awk -v n="$count" -v s="$seconds" -v l="$lines" -v m="$memory" -v r="$run" 'BEGIN {
-            printf "connects %d run %d: %d records a second, %.1f times wc -l, %.1f MiB peak\n", n, r, n / s, s / l, m / 1024 }'
+    for run in $(seq "$3"); do
+        read -r seconds peak < <(measure "$trace" "$program" replay)
+        rate=$(awk -v n="$2" -v s="$seconds" 'BEGIN { printf "%d", n / s }')
+        awk -v kind="$1" -v n="$2" -v run="$run" -v rate="$rate" -v s="$seconds" -v l="$lines" -v peak="$peak" 'BEGIN {
+            printf "%s %d, run %d: %d records a second, %.1f times wc -l, %.1f MiB peak\n", kind, n, run, rate, s / l, peak / 1024 }'
     done
-done
+}
+
+# against_connects KIND PEERS: what the last replay cost beside the connects.
+against_connects() {
+    awk -v kind="$1" -v peers="$2" -v rate="$rate" -v base="$base" -v peak="$peak" -v least="$least" 'BEGIN {
+        printf "%s: %.4f of the connects a second, %d bytes a stored peer\n", kind, rate / base, (peak - least) * 1024 / peers }'
+}
+
+replay connects $((connects / 10)) 1
+replay connects "$connects" 3
+base=$rate least=$peak
+replay announces "$announces" 3
+against_connects announces $((announces < 100000 ? announces : 100000))
+replay swarm "$swarm" 1
+against_connects swarm $((swarm < 50000 ? swarm : 50000))

@@ -4,5 +4,6 @@ pub mod LineLemmas
 pub mod ReplayLemmas
 pub mod RunLemmas
 pub mod TraceBytes
+pub mod TraceFamily
 pub mod TraceFields
 pub mod TraceNumbers

@@ -250,3 +250,14 @@ module _ {S : Type 0} (answers : S → List ℕ → List ℕ → S → Type 0) (
         too_much = (λ e. omega (arith, length-append going.read more, going.long, full, some), λ h. refl);
         leaves = subst (λ bytes. Runs answers old (whole_lines bytes) going.text now) (sym front) (Runs-of answers old now going.read begun going.text number going.fed going.is_begun);
       }
+
+  -- a run that didn't begin, for want of memory
+  pub Ran-none : (P : Type 0) (old : S) (left held : Option (List ℕ)) → Ran answers refuses P left left held held old old NoRoom
+  Ran-none P old left held = record {
+    read = [];
+    text = [];
+    taken = Consumes-nil left;
+    written = Appends-nil held;
+    too_much = (λ e. absurd (cc), λ h. absurd (omega (arith, h)));
+    leaves = record { before = []; after = []; at = old; unwritten = []; cut = refl; runs = (refl, refl) };
+  }

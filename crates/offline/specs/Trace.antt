@@ -115,3 +115,7 @@ record_of line = answered_today (fields_record (parts_of 32 line))
 -- a datagram that was read, its bytes at the front of a buffer
 abbrev pub record_in : Datagram → List ℕ → Record
 record_in datagram buffer = record { seconds = datagram.seconds; from = datagram.from; bytes = take datagram.len buffer }
+
+-- a datagram that was read, with these bytes
+abbrev pub record_with : Datagram → List ℕ → Record
+record_with datagram bytes = record { seconds = datagram.seconds; from = datagram.from; bytes = bytes }

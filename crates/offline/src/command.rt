@@ -45,9 +45,22 @@ pub fn run_offline<S: Source, O: Sink, E: Sink>(
         (O.faults out.old) (O.faults out.new) result }
     ensures told { Tells (E.written err.old) (E.written err.new) (E.faults err.old) (E.faults err.new) (status_text result) }
 {
-    let status = run_lines(alloc, &mut Replay::new(command.secret()), input, out);
+    let status = replay(alloc, command.secret(), input, out);
     report(status, err);
     status
+}
+
+/// Replays a trace with this secret.
+fn replay<S: Source, O: Sink>(alloc: Global, secret: Secret, input: &mut S, out: &mut O) -> Status
+    ensures replayed { Replayed secret (Rose (S.ends input.old) (S.ends input.new) × IsAtEnd (S.left input.new))
+        (S.left input.old) (S.left input.new) (O.written out.old) (O.written out.new) result }
+    ensures cause { HasCause (S.ends input.old) (S.ends input.new) (S.faults input.old) (S.faults input.new)
+        (O.faults out.old) (O.faults out.new) result }
+{
+    match Replay::new(alloc, secret) {
+        Ok(mut replay) => run_lines(alloc, &mut replay, input, out),
+        Err(_) => Status::NoMemory,
+    }
 }
 
 /// Reads the words of a command line, without the program's name, and runs the command. The one word that

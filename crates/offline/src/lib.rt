@@ -3,6 +3,7 @@
 
 mod command;
 mod lines;
+mod plan;
 mod replay;
 mod run;
 #[cfg(test)]

@@ -5,6 +5,8 @@ ghost use Rattle.std.specs.Char.{is_ascii_digit, digit_value};
 ghost use Rattle.std.specs.List.{list_all};
 ghost use Rattle.std.specs.Str.Parse.{digits_value};
 ghost use Rattle.hex.specs.Hex.{decode_of, is_hex_digit};
+ghost use Rattle.ot_base.specs.Address.{family_of};
+ghost use Rattle.ot_base.specs.declared.address.Family.TheVariants.{Four};
 ghost use Rattle.offline.specs.Trace.{record_of, fields_record, datagram_of, parts_of, number_of, seconds_of, port_of, octet_of, address_of, dotted_of, is_six, counted_of, named_today, record_in};
 
 use memchr::memchr;
@@ -43,6 +45,7 @@ pub struct Datagram {
 /// `Form` for every other line.
 pub fn read_line(line: &[u8], bytes: &mut [u8; DATAGRAM_BYTES]) -> Result<Datagram, TraceFault>
     ensures read { IfOk result (λ datagram. record_of line.now ≡ Ok (record_in datagram bytes.new)) }
+    ensures four { IfOk result (λ datagram. family_of datagram.from.addr ≡ Four) }
     ensures fits { IfOk result (λ datagram. datagram.len ≤ DATAGRAM_BYTES) }
     ensures refused { IfErr result (λ fault. record_of line.now ≡ Err fault) }
 {
@@ -65,6 +68,7 @@ fn name_today(fault: TraceFault) -> TraceFault
 fn read_fields(line: &[u8], bytes: &mut [u8; DATAGRAM_BYTES]) -> Result<Datagram, TraceFault>
     ensures read { IfOk result (λ datagram.
         fields_record (parts_of 32 line.now) ≡ Ok (record_in datagram bytes.new)) }
+    ensures four { IfOk result (λ datagram. family_of datagram.from.addr ≡ Four) }
     ensures fits { IfOk result (λ datagram. datagram.len ≤ DATAGRAM_BYTES) }
     ensures refused { IfErr result (λ fault. fields_record (parts_of 32 line.now) ≡ Err fault) }
 {
@@ -106,6 +110,7 @@ fn read_datagram(
 ) -> Result<Datagram, TraceFault>
     ensures read { IfOk result (λ datagram.
         datagram_of time.now address.now port.now hex.now ≡ Ok (record_in datagram bytes.new)) }
+    ensures four { IfOk result (λ datagram. family_of datagram.from.addr ≡ Four) }
     ensures fits { IfOk result (λ datagram. datagram.len ≤ DATAGRAM_BYTES) }
     ensures refused { IfErr result (λ fault.
         datagram_of time.now address.now port.now hex.now ≡ Err fault) }
