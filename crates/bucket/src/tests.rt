@@ -33,9 +33,10 @@ fn numbered(n: u8) -> Endpoint
     at([192, 0, 2, n])
 }
 
-const AMPLE: Limits = Limits {
-    peers: 1000,
-    torrents: 1000,
+/// The limits that a tracker has where nobody sets others.
+const USUAL: Limits = Limits {
+    peers: 100_000,
+    torrents: 65_536,
 };
 
 /// How a peer takes part.
@@ -143,18 +144,15 @@ fn follow(rt: &(impl Abort + AllocGlobal), limits: Limits, steps: &[Step]) -> Re
 
 #[test]
 fn worked_announces(rt: HostRuntime) -> Result<(), Fail> {
-    let two_peers = Limits {
-        peers: 2,
-        torrents: 1000,
-    };
+    let two_peers = Limits { peers: 2, ..USUAL };
     let one_torrent = Limits {
-        peers: 1000,
         torrents: 1,
+        ..USUAL
     };
     // A seed, and a leecher that is told of it.
     follow(
         &rt,
-        AMPLE,
+        USUAL,
         &[
             (0, A, 1, As::Seed, Said::Told(1, 0, 0, None)),
             (0, A, 2, As::Leecher, Said::Told(1, 0, 1, Some(1))),
@@ -163,7 +161,7 @@ fn worked_announces(rt: HostRuntime) -> Result<(), Fail> {
     // A seed that turns leecher.
     follow(
         &rt,
-        AMPLE,
+        USUAL,
         &[
             (0, A, 1, As::Seed, Said::Told(1, 0, 0, None)),
             (0, A, 1, As::Leecher, Said::Told(0, 0, 1, None)),
@@ -172,7 +170,7 @@ fn worked_announces(rt: HostRuntime) -> Result<(), Fail> {
     // A peer is live at an age of 44 minutes, and gone at 45.
     follow(
         &rt,
-        AMPLE,
+        USUAL,
         &[
             (0, A, 1, As::Leecher, Said::Told(0, 0, 1, None)),
             (44, A, 2, As::Leecher, Said::Told(0, 0, 2, Some(1))),
@@ -182,7 +180,7 @@ fn worked_announces(rt: HostRuntime) -> Result<(), Fail> {
     // Time doesn't fall: the second peer's stamp is 8.
     follow(
         &rt,
-        AMPLE,
+        USUAL,
         &[
             (8, A, 1, As::Leecher, Said::Told(0, 0, 1, None)),
             (7, A, 2, As::Leecher, Said::Told(0, 0, 2, Some(1))),
@@ -193,7 +191,7 @@ fn worked_announces(rt: HostRuntime) -> Result<(), Fail> {
     // A download counts once, and not of what was a seed.
     follow(
         &rt,
-        AMPLE,
+        USUAL,
         &[
             (0, A, 1, As::Finisher, Said::Told(1, 1, 0, None)),
             (0, A, 1, As::Finisher, Said::Told(1, 1, 0, None)),
@@ -228,12 +226,13 @@ fn worked_announces(rt: HostRuntime) -> Result<(), Fail> {
 }
 
 /// How many peers a newcomer is told among so many others.
-fn told_among(rt: &(impl Abort + AllocGlobal), others: u8, want: u32) -> Result<usize, Fail>
+fn told_among(rt: &(impl Abort + AllocGlobal), others: u16, want: u32) -> Result<usize, Fail>
     requires { want ≤ 200 }
 {
-    let mut bucket = Bucket::new(rt.alloc(), AMPLE, false)?;
+    let mut bucket = Bucket::new(rt.alloc(), USUAL, false)?;
     for n in 0..others {
-        let call = announce_as(A, at([10, 0, 0, n]), As::Leecher, 0);
+        let [high, low] = n.to_be_bytes();
+        let call = announce_as(A, at([10, 0, high, low]), As::Leecher, 0);
         ask(&mut bucket, 0, call);
     }
     assert_eq!(rt; bucket.held(), u64::from(others));
@@ -252,12 +251,13 @@ fn as_many_peers_as_are_wanted(rt: HostRuntime) -> Result<(), Fail> {
     assert_eq!(rt; told_among(&rt, 201, 50)?, 50);
     assert_eq!(rt; told_among(&rt, 201, 0)?, 0);
     assert_eq!(rt; told_among(&rt, 0, 200)?, 0);
+    assert_eq!(rt; told_among(&rt, 1000, 200)?, 200);
     Ok(())
 }
 
 #[test]
 fn time_and_stored_peers(rt: HostRuntime) -> Result<(), Fail> {
-    let mut bucket = Bucket::new(rt.alloc(), AMPLE, false)?;
+    let mut bucket = Bucket::new(rt.alloc(), USUAL, false)?;
     assert_eq!(rt; (bucket.time(), bucket.held()), (Minute(0), 0));
     ask(&mut bucket, 8, announce_as(A, numbered(1), As::Leecher, 0));
     ask(&mut bucket, 7, announce_as(B, numbered(1), As::Leecher, 0));
