@@ -1,8 +1,9 @@
 #!/usr/bin/env bash
 # How fast the built program replays a trace, and with how much memory.
 #   bench/replay.sh [CONNECTS [ANNOUNCES [SWARM]]]    how many records of each kind, at first 1000000 1000000 60000
-# It prints records a second in three runs (one for the big swarm), the time as a ratio to `wc -l` on the same file, for
-# announces the ratio to the connects' records a second, the peak memory, and the bytes of it a stored peer.
+# It prints records a second in three runs (one for the big swarm), the time as a ratio to the fastest of three `wc -l` on
+# the same file, and the peak memory; for announces also the ratio to the connects' records a second, and the bytes of
+# memory a stored peer.
 set -euo pipefail
 cd "$(dirname "$0")/.."
 connects=${1:-1000000} announces=${2:-1000000} swarm=${3:-60000}
@@ -11,24 +12,40 @@ trap 'rm -rf "$work"' EXIT
 ./opentracker replay </dev/null
 program=crates/opentracker/out/opentracker
 
-# Seconds and peak memory in KiB of a command with this input.
+# Seconds and peak memory in KiB of a command with this input. The peak is the kernel's own mark of it, looked at each 2 ms:
+# what `wait` tells after the end is no less than the size of the process that began the command.
 measure() {
     python3 - "$@" <<'PY'
-import os, resource, subprocess, sys, time
+import re, subprocess, sys, threading, time
+peak = 0
+def watch(pid):
+    global peak
+    while True:
+        try:
+            with open(f"/proc/{pid}/status") as status:
+                mark = re.search(r"VmHWM:\s*(\d+) kB", status.read())
+        except OSError:
+            return
+        peak = max(peak, int(mark[1]) if mark else 0)
+        time.sleep(0.002)
 start = time.monotonic()
-with open(sys.argv[1], "rb") as trace, open(os.devnull, "wb") as nothing:
-    status = subprocess.run(sys.argv[2:], stdin=trace, stdout=nothing).returncode
+with open(sys.argv[1], "rb") as trace:
+    child = subprocess.Popen(sys.argv[2:], stdin=trace, stdout=subprocess.DEVNULL)
+watcher = threading.Thread(target=watch, args=(child.pid,))
+watcher.start()
+code = child.wait()
 seconds = time.monotonic() - start
-assert status == 0, status
-print(f"{seconds:.6f} {resource.getrusage(resource.RUSAGE_CHILDREN).ru_maxrss}")
+watcher.join()
+assert code == 0, code
+print(f"{seconds:.6f} {peak}")
 PY
 }
 
-# replay KIND RECORDS RUNS PEERS: sets `rate` and `peak`, of the last run.
+# replay KIND RECORDS RUNS: sets `rate` and `peak`, of the last run.
 replay() {
     local trace=$work/trace lines seconds run
     python3 bench/traces.py "$1" "$2" >"$trace"
-    lines=$(measure "$trace" wc -l | cut -d' ' -f1)
+    lines=$(for run in 1 2 3; do measure "$trace" wc -l; done | cut -d' ' -f1 | sort -n | head -n 1)
     for run in $(seq "$3"); do
         read -r seconds peak < <(measure "$trace" "$program" replay)
         rate=$(awk -v n="$2" -v s="$seconds" 'BEGIN { printf "%d", n / s }')
