@@ -1,12 +1,14 @@
 #!/usr/bin/env bash
 # How fast the built program replays a trace, and with how much memory.
-#   bench/replay.sh [CONNECTS [ANNOUNCES [SWARM]]]    how many records of each kind, at first 1000000 1000000 60000
+#   bench/replay.sh [CONNECTS [ANNOUNCES [TORRENT [SWARM]]]]
+# are how many records there are of each kind, at first 1000000 1000000 100000 60000: connects, announces over 1,000
+# torrents, to one torrent of 1,000 endpoints, and to one of 50,000.
 # It prints records a second in three runs (one for the big swarm), the time as a ratio to the fastest of three `wc -l` on
 # the same file, and the peak memory; for announces also the ratio to the connects' records a second, and the bytes of
 # memory a stored peer.
 set -euo pipefail
 cd "$(dirname "$0")/.."
-connects=${1:-1000000} announces=${2:-1000000} swarm=${3:-60000}
+connects=${1:-1000000} announces=${2:-1000000} torrent=${3:-100000} swarm=${4:-60000}
 work=$(mktemp -d)
 trap 'rm -rf "$work"' EXIT
 ./opentracker replay </dev/null
@@ -65,5 +67,7 @@ replay connects "$connects" 3
 base=$rate least=$peak
 replay announces "$announces" 3
 against_connects announces $((announces < 100000 ? announces : 100000))
+replay torrent "$torrent" 3
+against_connects torrent $((torrent < 1000 ? torrent : 1000))
 replay swarm "$swarm" 1
 against_connects swarm $((swarm < 50000 ? swarm : 50000))

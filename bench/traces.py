@@ -3,6 +3,7 @@
 
 connects    connect requests of many endpoints
 announces   announces over 1,000 torrents by 100,000 endpoints, each of them first as a leecher
+torrent     announces to one torrent by 1,000 endpoints
 swarm       announces to one torrent by 50,000 endpoints
 
 Connects come at ten a second, announces at a hundred a second.
@@ -45,13 +46,18 @@ def announces(count, write, torrents=1_000, endpoints=100_000, second=100):
         write(f"U {seconds} {dotted(address)} 6881 {datagram.hex()}\n")
 
 
+def torrent(count, write):
+    announces(count, write, torrents=1, endpoints=1_000)
+
+
 def swarm(count, write):
     announces(count, write, torrents=1, endpoints=50_000)
 
 
 def main():
     kind, count = sys.argv[1], int(sys.argv[2])
-    {"connects": connects, "announces": announces, "swarm": swarm}[kind](count, sys.stdout.write)
+    kinds = {"connects": connects, "announces": announces, "torrent": torrent, "swarm": swarm}
+    kinds[kind](count, sys.stdout.write)
 
 
 main()
