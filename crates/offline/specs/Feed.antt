@@ -70,11 +70,6 @@ OutputCause writes writes' TooMuch = ⊥
 OutputCause writes writes' NoRoom = Unit {0}
 OutputCause writes writes' (Words at) = ⊥
 
--- how a run ends that met trouble with the line of this number
-abbrev pub status_after : Trouble → ℕ → Status
-status_after (Fault fault) n = Line n fault
-status_after NoMemory n = NoRoom
-
 -- the same where the input came to its end: then a run may be done
 abbrev pub LastCause : ℕ → ℕ → Status → Type 0
 LastCause writes writes' Done = Unit {0}
@@ -84,6 +79,11 @@ LastCause writes writes' (Line n fault) = Unit {0}
 LastCause writes writes' TooMuch = ⊥
 LastCause writes writes' NoRoom = Unit {0}
 LastCause writes writes' (Words at) = ⊥
+
+-- how a run ends that met trouble with the line of this number
+abbrev pub status_after : Trouble → ℕ → Status
+status_after (Fault fault) n = Line n fault
+status_after NoMemory n = NoRoom
 
 -- a read gave at most so many bytes
 abbrev pub IsWithin : ℕ → Piece → Type 0
