@@ -4,7 +4,7 @@ use Rattle.std.proofs.lemmas.List.{length-map}
 use Rattle.std.specs.List.{filter}
 use Rattle.bucket.specs.Peers.{is_other}
 use Rattle.bucket.proofs.Places.{first_filtered}
-use Rattle.bucket.proofs.stored.others.Goals as goal
+use Rattle.bucket.proofs.peer_list.tell_others.Goals as goal
 
 pub returns-then-len-want : goal.returns-then-len-want
 returns-then-len-want c =

@@ -5,7 +5,7 @@ use Rattle.ot_base.specs.declared.peer.Held.{Held}
 use Rattle.ot_base.specs.Same.{same_endpoint}
 use Rattle.tracker_model.specs.Known.{is_seed}
 use Rattle.bucket.proofs.Places.{find_at_place, find_nowhere}
-use Rattle.bucket.proofs.stored.was_seed_at.Goals as goal
+use Rattle.bucket.proofs.peer_list.was_seed_at.Goals as goal
 
 pub returns-in-Some : goal.returns-in-Some
 returns-in-Some c =

@@ -5,7 +5,7 @@ use Rattle.ot_base.specs.Same.{same_endpoint}
 use Rattle.ot_base.proofs.SameLemmas.{same_endpoint_decides}
 use Rattle.bucket.proofs.Keyed.{put_at, put_last}
 use Rattle.bucket.proofs.Places.{find_nowhere}
-use Rattle.bucket.proofs.stored.put_in.Goals as goal
+use Rattle.bucket.proofs.peer_list.put_in.Goals as goal
 
 pub returns-in-Some-clause-ok : goal.returns-in-Some-clause-ok
 returns-in-Some-clause-ok c =
