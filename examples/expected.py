@@ -73,8 +73,6 @@ def announce_reply(tracker, transaction, address, datagram):
     left, = struct.unpack(">Q", datagram[64:72])
     event, = struct.unpack(">I", datagram[80:84])
     want, port = struct.unpack(">iH", datagram[92:98])
-    if port == 0:
-        return error(transaction, b"bad port")
     endpoint, completed = (address, port), event == 1
     if event == 3:
         told = tracker.stop(info_hash, endpoint)
@@ -86,7 +84,7 @@ def announce_reply(tracker, transaction, address, datagram):
     return head + b"".join(a + struct.pack(">H", p) for a, p in peers)
 
 
-def scrape_reply(tracker, transaction, datagram):
+def scrape_reply(tracker, transaction, _, datagram):
     hashes = [datagram[i : i + 20] for i in range(16, len(datagram) - 19, 20)][:74]
     groups = (struct.pack(">III", *tracker.scrape(info_hash)) for info_hash in hashes)
     return struct.pack(">II", 2, transaction) + b"".join(groups)
@@ -110,12 +108,12 @@ def output(tracker, seconds, address, datagram):
         reply = error(transaction, b"unknown action")
     elif connection not in [connection_id(address, m) for m in (minute, minute - 1, minute - 2) if m >= 0]:
         reply = error(transaction, b"bad connection id")
-    elif action == 1:
-        tracker.advance(minute)
-        reply = announce_reply(tracker, transaction, address, datagram)
+    elif action == 1 and datagram[96:98] == bytes(2):
+        reply = error(transaction, b"bad port")
     else:
+        # What was refused above made no call, and time moves by calls alone.
         tracker.advance(minute)
-        reply = scrape_reply(tracker, transaction, datagram)
+        reply = (announce_reply if action == 1 else scrape_reply)(tracker, transaction, address, datagram)
     return "R " + reply.hex()
 
 
