@@ -16,10 +16,10 @@ use Rattle.tracker_model.specs.Entries.{time_of, took_effect, is_effective}
 use Rattle.tracker_model.specs.Known.{is_known}
 use Rattle.tracker_model.specs.Live.{if_live, live, is_live}
 use Rattle.tracker_model.specs.Outbox.{note_made}
-use Rattle.tracker_model.specs.Right.{is_swarm_full, is_bucket_full, is_no_memory, may_want, IsToldAnd, IsFair, IsRight}
+use Rattle.tracker_model.specs.Right.{is_swarm_full, is_bucket_full, is_no_memory, may_want, IsToldAnd, IsFair, IsRightAfterPast}
 use Rattle.tracker_model.specs.Settings.{Settings}
 use Rattle.tracker_model.specs.Shape.{Shape, Torrent, peers_of, held_of, torrent_of, live_in, known_in, is_live_in, is_known_in, known_torrents, downloads_in}
-use Rattle.tracker_model.specs.Stands.{AreTidy, IsTidy, Keeps, Stands}
+use Rattle.tracker_model.specs.Stands.{AreTidy, IsTidy, Keeps, StandsFor}
 use Rattle.tracker_model.specs.Steps.{SameAt, Puts, TorrentStep, notes_with, dropped_with}
 use Rattle.tracker_model.specs.declared.answer.Answer.{Answer}
 use Rattle.tracker_model.specs.declared.answer.Answer.TheVariants.{Told, SwarmFull, BucketFull, NoMemory}
@@ -32,11 +32,11 @@ use Rattle.tracker_model.proofs.EntryLemmas.{says_word, touches_announced}
 use Rattle.tracker_model.proofs.KnownLemmas.{zero_recent}
 use Rattle.tracker_model.proofs.StandsLemmas.{time_after, keeps_now, same_then_step, stands_step}
 use Rattle.tracker_model.proofs.StepLemmas.{keeps_later, keeps_put}
-use Rattle.bucket.specs.Announces.{Announces, refused_answer}
+use Rattle.bucket.specs.Announces.{Announces, error_answer}
 use Rattle.bucket.specs.Joins.{JoinsNew, JoinsKnown}
-use Rattle.bucket.specs.Torrents.{of_family, put_torrent, new_torrent, without_stale, joined, counted, others_told}
-use Rattle.bucket.specs.declared.join.Refused.{Refused}
-use Rattle.bucket.specs.declared.join.Refused.TheVariants.{SwarmFull as SwarmIsFull, BucketFull as BucketIsFull, NoMemory as MemoryIsWanted}
+use Rattle.bucket.specs.Torrents.{of_family, put_torrent, new_torrent, without_stale, with_peer, counts_at, other_endpoints}
+use Rattle.bucket.specs.declared.join.JoinError.{JoinError}
+use Rattle.bucket.specs.declared.join.JoinError.TheVariants.{SwarmFull as SwarmIsFull, BucketFull as BucketIsFull, NoMemory as MemoryIsWanted}
 use Rattle.bucket.specs.declared.stored.Joining.{Joining}
 use Rattle.bucket.proofs.Families.{Distinct, tidy_of, tidy_joined, tidy_without_stale, held_of-family, peers_without_stale}
 use Rattle.bucket.proofs.Keyed.{kept, same_false-flip, all_found, find-filter}
@@ -47,7 +47,7 @@ use Rattle.bucket.proofs.TorrentLemmas.{hash-joined, touch-joined}
 
 -- an answer that is right, and the step that it makes
 pub record Settles (g : Settings) (past : List Entry) (x : Entry) (old new : List Torrent) : Type 0 where
-  pub right : IsRight g past x
+  pub right : IsRightAfterPast g past x
   pub step : TorrentStep (is_effective x) x.call (time_of (x ∷ past)) old new
 
 -- an entry of an announce
@@ -94,12 +94,12 @@ module _ (g : Settings) (past : List Entry) (caller : ℕ) (minute : Minute) (j 
 
     -- an endpoint took part, in a torrent that stood in the middle of the step
     answered : (t : Torrent) (middle : List Torrent) → IsTidy t → AreTidy new → SameAt now old middle →
-        torrent_of new j.hash ≡ Some (joined now j t) → ((k : InfoHash) → same_hash j.hash k ≡ false → torrent_of new k ≡ torrent_of middle k) →
+        torrent_of new j.hash ≡ Some (with_peer now j t) → ((k : InfoHash) → same_hash j.hash k ≡ false → torrent_of new k ≡ torrent_of middle k) →
         ((e : Endpoint) → live_in now middle j.hash e ≡ held_of (peers_of t) e) → downloads_in (known_in now middle j.hash) ≡ t.downloaded →
-        answer ≡ Told (counted now (joined now j t)) (others_told now j.who want (joined now j t)) →
+        answer ≡ Told (counts_at now (with_peer now j t)) (other_endpoints now j.who want (with_peer now j t)) →
         is_swarm_full g past now x.call ≡ false → is_bucket_full g past now x.call ≡ false → Settles g past x old new
     answered t middle tidy all same found others live count is room space =
-        let after : Torrent = joined now j t in
+        let after : Torrent = with_peer now j t in
         let puts : Puts now j.hash j.who j.seed j.completed old new =
         same_then_step true x.call now old middle new same (puts_joined now j t tidy middle new all found others live count) in
         let done : is_effective x ≡ true = ap (λ a. took_effect a) is in
@@ -116,7 +116,7 @@ module _ (g : Settings) (past : List Entry) (caller : ℕ) (minute : Minute) (j 
         }
 
     -- nothing but time has changed
-    refused : SameAt now old new → took_effect answer ≡ false → IsRight g past x → Settles g past x old new
+    refused : SameAt now old new → took_effect answer ≡ false → IsRightAfterPast g past x → Settles g past x old new
     refused same none right =
         let Step : Bool → Type 0 = λ b. TorrentStep b x.call now old new in
         record { right = right; step = subst Step (sym none) same }
@@ -139,16 +139,16 @@ module _ (g : Settings) (past : List Entry) (caller : ℕ) (minute : Minute) (j 
           ap (λ b. not b && (known_count past now == g.limits.torrents)) unknown
           ∙ ap (λ n. n == g.limits.torrents) (known_count-stored past now old before)
 
-      settles_new : (outcome : Result ℕ Refused) → JoinsNew g.limits now j known_now new outcome →
-          MatchResult outcome (λ place. IfSome (slice_get new place) (λ t. answer ≡ Told (counted now t) (others_told now j.who want t))) (λ r. answer ≡ refused_answer g.limits r) →
+      settles_new : (outcome : Result ℕ JoinError) → JoinsNew g.limits now j known_now new outcome →
+          MatchResult outcome (λ place. IfSome (slice_get new place) (λ t. answer ≡ Told (counts_at now t) (other_endpoints now j.who want t))) (λ r. answer ≡ error_answer g.limits r) →
           Settles g past x old new
       settles_new (Ok place) joins told =
           let t : Torrent = new_torrent j.hash in
-          let after : Torrent = joined now j t in
+          let after : Torrent = with_peer now j t in
           let hash : after.hash ≡ j.hash = hash-joined now j t in
           let tidy : IsTidy t = tidy_of t nothing nothing refl refl in
           let Put : List Torrent → Type 0 = λ l. AreTidy l in
-          let P : Option Torrent → Type 0 = λ o. IfSome o (λ t. answer ≡ Told (counted now t) (others_told now j.who want t)) in
+          let P : Option Torrent → Type 0 = λ o. IfSome o (λ t. answer ≡ Told (counts_at now t) (other_endpoints now j.who want t)) in
           let looked = λ (k : InfoHash). (let p : torrent_of new k ≡ (if same_hash k after.hash then Some after else torrent_of known_now k) = ap (λ l. torrent_of l k) joins.1 ∙ found_put after known_now k in p) in
           answered t known_now tidy
           (subst Put (sym joins.1) (tidy_put after known_now (tidy_joined now j t tidy) passed.tidy))
@@ -162,10 +162,10 @@ module _ (g : Settings) (past : List Entry) (caller : ℕ) (minute : Minute) (j 
           (space_unknown ∙ joins.0)
       settles_new (Err r) joins told = by_test (length known_now == g.limits.torrents) (Settles g past x old new)
           (λ full.
-          let is : answer ≡ BucketFull g.limits.torrents = told ∙ ap (λ r. refused_answer g.limits r) (joins.1 ∙ ap (λ b. if b then BucketIsFull else MemoryIsWanted) full) in
+          let is : answer ≡ BucketFull g.limits.torrents = told ∙ ap (λ r. error_answer g.limits r) (joins.1 ∙ ap (λ b. if b then BucketIsFull else MemoryIsWanted) full) in
           refused same (ap (λ a. took_effect a) is) (right_bucket_full g past x room_unknown (space_unknown ∙ full) is))
           (λ space.
-          let is : answer ≡ NoMemory = told ∙ ap (λ r. refused_answer g.limits r) (joins.1 ∙ ap (λ b. if b then BucketIsFull else MemoryIsWanted) space) in
+          let is : answer ≡ NoMemory = told ∙ ap (λ r. error_answer g.limits r) (joins.1 ∙ ap (λ b. if b then BucketIsFull else MemoryIsWanted) space) in
           let wants : may_want g past now x.call ≡ true =
           ap (λ b. b || not (is_live past j.hash j.who now)) alone ∙ ap (λ b. not b) (is_live-stored j.who ∙ ap (λ o. is_some o) (unlive j.who)) in
           refused same (ap (λ a. took_effect a) is) (right_wanting g past x room_unknown (space_unknown ∙ space) (ap (λ a. is_no_memory a) is) wants))
@@ -229,15 +229,15 @@ module _ (g : Settings) (past : List Entry) (caller : ℕ) (minute : Minute) (j 
           ∙ ap (λ b. b && (swarm_size past j.hash now == g.limits.peers)) (and_true (is_none (held_of (of_family (family_of j.who.addr) fresh) j.who)))
           ∙ ap (λ n. is_none (held_of (of_family (family_of j.who.addr) fresh) j.who) && (n == g.limits.peers)) size-fresh
 
-      settles_known : (outcome : Result ℕ Refused) → JoinsKnown g.limits now j t known_now new outcome →
-          MatchResult outcome (λ place. IfSome (slice_get new place) (λ t. answer ≡ Told (counted now t) (others_told now j.who want t))) (λ r. answer ≡ refused_answer g.limits r) →
+      settles_known : (outcome : Result ℕ JoinError) → JoinsKnown g.limits now j t known_now new outcome →
+          MatchResult outcome (λ place. IfSome (slice_get new place) (λ t. answer ≡ Told (counts_at now t) (other_endpoints now j.who want t))) (λ r. answer ≡ error_answer g.limits r) →
           Settles g past x old new
       settles_known (Ok place) joins told =
-          let after : Torrent = joined now j fresh in
+          let after : Torrent = with_peer now j fresh in
           let same_name : after.hash ≡ j.hash = hash-joined now j fresh ∙ hash in
           let one : IsTidy fresh = tidy_without_stale now t tidy in
           let Put : List Torrent → Type 0 = λ l. AreTidy l in
-          let P : Option Torrent → Type 0 = λ o. IfSome o (λ t. answer ≡ Told (counted now t) (others_told now j.who want t)) in
+          let P : Option Torrent → Type 0 = λ o. IfSome o (λ t. answer ≡ Told (counts_at now t) (other_endpoints now j.who want t)) in
           let looked = λ (k : InfoHash). (let p : torrent_of new k ≡ (if same_hash k after.hash then Some after else torrent_of known_now k) = ap (λ l. torrent_of l k) joins.0.1 ∙ found_put after known_now k in p) in
           let itself : same_hash j.hash j.hash ≡ true = (same_hash_decides j.hash j.hash).1 refl in
           let there : torrent_of middle j.hash ≡ Some fresh =
@@ -257,10 +257,10 @@ module _ (g : Settings) (past : List Entry) (caller : ℕ) (minute : Minute) (j 
           space_known
       settles_known (Err r) joins told = by_test (length (peers_of fresh) == g.limits.peers) (Settles g past x old new)
           (λ full.
-          let is : answer ≡ SwarmFull g.limits.peers = told ∙ ap (λ r. refused_answer g.limits r) (joins.0.2 ∙ ap (λ b. if b then SwarmIsFull else MemoryIsWanted) full) in
+          let is : answer ≡ SwarmFull g.limits.peers = told ∙ ap (λ r. error_answer g.limits r) (joins.0.2 ∙ ap (λ b. if b then SwarmIsFull else MemoryIsWanted) full) in
           refused same (ap (λ a. took_effect a) is) (right_swarm_full g past x (full_known ∙ ap (λ b. b && (length (peers_of fresh) == g.limits.peers)) joins.0.0 ∙ full) is))
           (λ room.
-          let is : answer ≡ NoMemory = told ∙ ap (λ r. refused_answer g.limits r) (joins.0.2 ∙ ap (λ b. if b then SwarmIsFull else MemoryIsWanted) room) in
+          let is : answer ≡ NoMemory = told ∙ ap (λ r. error_answer g.limits r) (joins.0.2 ∙ ap (λ b. if b then SwarmIsFull else MemoryIsWanted) room) in
           let wants : may_want g past now x.call ≡ true = ap (λ b. b || not (is_live past j.hash j.who now)) alone ∙ is_new-fresh ∙ joins.0.0 in
           refused same (ap (λ a. took_effect a) is)
           (right_wanting g past x (full_known ∙ ap (λ b. b && (length (peers_of fresh) == g.limits.peers)) joins.0.0 ∙ room) space_known (ap (λ a. is_no_memory a) is) wants))
@@ -281,11 +281,11 @@ module _ (g : Settings) (past : List Entry) (caller : ℕ) (minute : Minute) (j 
         by_torrent (Some t) found joins = settles_known t found outcome joins told
 
 -- notes are made only where sync is on
-no_note : (g : Settings) (note : Option Note) (notes : List Note) → g.sync ≡ false → notes_with g note notes ≡ notes
+pub no_note : (g : Settings) (note : Option Note) (notes : List Note) → g.sync ≡ false → notes_with g note notes ≡ notes
 no_note g None notes alone = refl
 no_note g (Some note) notes alone = ap (λ b. if b && nat_lt (length notes) OUTBOX_NOTES then notes ++ note ∷ [] else notes) alone
 
-none_dropped : (g : Settings) (note : Option Note) (notes : List Note) (dropped : ℕ) → g.sync ≡ false → dropped_with g note notes dropped ≡ dropped
+pub none_dropped : (g : Settings) (note : Option Note) (notes : List Note) (dropped : ℕ) → g.sync ≡ false → dropped_with g note notes dropped ≡ dropped
 none_dropped g None notes dropped alone = refl
 none_dropped g (Some note) notes dropped alone = ap (λ b. if b && not (nat_lt (length notes) OUTBOX_NOTES) then min 4294967295 (dropped + 1) else dropped) alone
 
@@ -298,7 +298,7 @@ pub record Leaves (old new : Shape) : Type 0 where
 pub announce_stands : (caller : ℕ) (minute : Minute) (j : Joining) (want : ℕ) (answer : Answer) (old new : Shape) →
     IsWellFormed (Announce j.hash j.who j.seed j.completed want) → old.settings.sync ≡ false → Leaves old new → new.time ≡ max minute.0 old.time →
     Announces old.settings.limits new.time j want (known_torrents new.time old.torrents) new.torrents answer →
-    (history : List Entry) → Stands history old → Stands (history ++ announced caller minute j want answer ∷ []) new
+    (history : List Entry) → StandsFor history old → StandsFor (history ++ announced caller minute j want answer ∷ []) new
 announce_stands caller minute j want answer old new formed alone leaves time announces history stands =
     let past = reverse history in
     let x : Entry = announced caller minute j want answer in

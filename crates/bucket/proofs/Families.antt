@@ -16,7 +16,7 @@ use Rattle.tracker_model.specs.Stands.{are_of, IsTidy}
 use Rattle.tracker_model.proofs.Cases.{by_test}
 use Rattle.tracker_model.proofs.KeyedLemmas.{keys_apart}
 use Rattle.bucket.specs.Peers.{put_peer}
-use Rattle.bucket.specs.Torrents.{of_family, with_family, without_stale, joined}
+use Rattle.bucket.specs.Torrents.{of_family, with_family, with_only, without_stale, with_peer}
 use Rattle.bucket.specs.declared.stored.Joining.{Joining}
 use Rattle.bucket.proofs.Keyed.{distinct_put, find-put, find-filter, kept}
 
@@ -115,13 +115,16 @@ fours_distinct t tidy = distinct_front t.fours t.sixes tidy.distinct
 pub sixes_distinct : (t : Torrent) → IsTidy t → Distinct t.sixes
 sixes_distinct t tidy = distinct_back t.fours t.sixes tidy.distinct
 
+pub tidy_with_only : (p : Held → Bool) (t : Torrent) → IsTidy t → IsTidy (with_only p t)
+tidy_with_only p t tidy =
+    tidy_of (with_only p t)
+    (keys_apart same_endpoint same_endpoint_decides (λ h. h.who) p t.fours (fours_distinct t tidy))
+    (keys_apart same_endpoint same_endpoint_decides (λ h. h.who) p t.sixes (sixes_distinct t tidy))
+    (are_of-filter Four p t.fours tidy.in_fours)
+    (are_of-filter Six p t.sixes tidy.in_sixes)
+
 pub tidy_without_stale : (minute : ℕ) (t : Torrent) → IsTidy t → IsTidy (without_stale minute t)
-tidy_without_stale minute t tidy =
-    tidy_of (without_stale minute t)
-    (keys_apart same_endpoint same_endpoint_decides (λ h. h.who) (is_live_in minute) t.fours (fours_distinct t tidy))
-    (keys_apart same_endpoint same_endpoint_decides (λ h. h.who) (is_live_in minute) t.sixes (sixes_distinct t tidy))
-    (are_of-filter Four (is_live_in minute) t.fours tidy.in_fours)
-    (are_of-filter Six (is_live_in minute) t.sixes tidy.in_sixes)
+tidy_without_stale minute t tidy = tidy_with_only (is_live_in minute) t tidy
 
 tidy_with : (f : Family) (held : Held) (t u : Torrent) → family_of held.who.addr ≡ f → IsTidy t → of_family Four u ≡ t.fours → of_family Six u ≡ t.sixes → IsTidy (with_family f (put_peer held (of_family f t)) u)
 tidy_with Four held t u is tidy fours sixes =
@@ -141,7 +144,7 @@ tidy_with Six held t u is tidy fours sixes =
     (subst F (sym fours) tidy.in_fours)
     (are_of-put Six held t.sixes (ap (λ f. same_family f Six) is) tidy.in_sixes)
 
-pub tidy_joined : (minute : ℕ) (j : Joining) (t : Torrent) → IsTidy t → IsTidy (joined minute j t)
+pub tidy_joined : (minute : ℕ) (j : Joining) (t : Torrent) → IsTidy t → IsTidy (with_peer minute j t)
 tidy_joined minute j t tidy = tidy_with (family_of j.who.addr) (record { who = j.who; seed = j.seed; stamp = record { 0 = minute } }) t _ refl tidy refl refl
 
 -- the stored peer of an endpoint is looked up among those of its family
@@ -182,13 +185,19 @@ held_of-with Six held t u e is tidy fours sixes =
     ∙ ap (λ o. if same_endpoint e held.who then Some held else o) (sym (find-append (λ h. same_endpoint e h.who) t.fours t.sixes))
 
 pub held_of-joined : (minute : ℕ) (j : Joining) (t : Torrent) (e : Endpoint) → IsTidy t →
-    held_of (peers_of (joined minute j t)) e ≡ (if same_endpoint e j.who then Some (record { who = j.who; seed = j.seed; stamp = record { 0 = minute } }) else held_of (peers_of t) e)
+    held_of (peers_of (with_peer minute j t)) e ≡ (if same_endpoint e j.who then Some (record { who = j.who; seed = j.seed; stamp = record { 0 = minute } }) else held_of (peers_of t) e)
 held_of-joined minute j t e tidy = held_of-with (family_of j.who.addr) (record { who = j.who; seed = j.seed; stamp = record { 0 = minute } }) t _ e refl tidy refl refl
 
+pub peers_with_only : (p : Held → Bool) (t : Torrent) → peers_of (with_only p t) ≡ filter p (peers_of t)
+peers_with_only p t = sym (filter-append p t.fours t.sixes)
+
+pub held_of-with_only : (p : Held → Bool) (t : Torrent) (e : Endpoint) → IsTidy t → held_of (peers_of (with_only p t)) e ≡ kept p (held_of (peers_of t) e)
+held_of-with_only p t e tidy =
+    ap (λ l. held_of l e) (peers_with_only p t)
+    ∙ find-filter same_endpoint (λ h. h.who) same_endpoint_decides p (peers_of t) e tidy.distinct
+
 pub peers_without_stale : (minute : ℕ) (t : Torrent) → peers_of (without_stale minute t) ≡ filter (is_live_in minute) (peers_of t)
-peers_without_stale minute t = sym (filter-append (is_live_in minute) t.fours t.sixes)
+peers_without_stale minute t = peers_with_only (is_live_in minute) t
 
 pub held_of-without_stale : (minute : ℕ) (t : Torrent) (e : Endpoint) → IsTidy t → held_of (peers_of (without_stale minute t)) e ≡ kept (is_live_in minute) (held_of (peers_of t) e)
-held_of-without_stale minute t e tidy =
-    ap (λ l. held_of l e) (peers_without_stale minute t)
-    ∙ find-filter same_endpoint (λ h. h.who) same_endpoint_decides (is_live_in minute) (peers_of t) e tidy.distinct
+held_of-without_stale minute t e tidy = held_of-with_only (is_live_in minute) t e tidy

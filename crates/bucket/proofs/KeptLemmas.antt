@@ -19,7 +19,7 @@ use Rattle.tracker_model.proofs.KnownLemmas.{zero_recent}
 use Rattle.tracker_model.proofs.LawLemmas.{live_is_known}
 use Rattle.tracker_model.proofs.LiveLemmas.{zero_live, if_live-later}
 use Rattle.tracker_model.proofs.KeyedLemmas.{keys_apart}
-use Rattle.bucket.specs.Torrents.{put_torrent, without_stale, joined}
+use Rattle.bucket.specs.Torrents.{put_torrent, without_stale, with_peer}
 use Rattle.bucket.specs.declared.stored.Joining.{Joining}
 use Rattle.bucket.proofs.Families.{tidy_without_stale, held_of-joined, held_of-without_stale, held_of-family}
 use Rattle.bucket.proofs.Keyed.{kept, same_false-flip, all_filtered, all_put, all_found, found_passes, distinct_put, find-filter, find-put}
@@ -137,14 +137,14 @@ same_fresh minute torrents h t tidy found =
 
 -- an endpoint takes part in a torrent that has no stale peers, in the list in which that torrent stands
 module _ (minute : ℕ) (j : Joining) (t : Torrent) (tidy : IsTidy t) (middle new : List Torrent) where
-  pub puts_joined : AreTidy new → torrent_of new j.hash ≡ Some (joined minute j t) →
+  pub puts_joined : AreTidy new → torrent_of new j.hash ≡ Some (with_peer minute j t) →
       ((g : InfoHash) → same_hash j.hash g ≡ false → torrent_of new g ≡ torrent_of middle g) →
       ((e : Endpoint) → live_in minute middle j.hash e ≡ held_of (peers_of t) e) →
       downloads_in (known_in minute middle j.hash) ≡ t.downloaded →
       Puts minute j.hash j.who j.seed j.completed middle new
   puts_joined all found others live count =
       let held : Held = record { who = j.who; seed = j.seed; stamp = record { 0 = minute } } in
-      let after : Torrent = joined minute j t in
+      let after : Torrent = with_peer minute j t in
       let told = λ (touch downloaded : ℕ). (let s : Standing = record { touch = touch; downloaded = downloaded } in s) in
       let looked = λ (e : Endpoint). (let p : live_in minute new j.hash e ≡ if_live minute (if same_endpoint e j.who then Some held else held_of (peers_of t) e) =
       ap (λ o. live_found minute e o) found ∙ ap (λ o. if_live minute o) (held_of-joined minute j t e tidy) in p) in

@@ -1,10 +1,13 @@
 pub mod AnnounceLaw
+pub mod CallLaw
 pub mod Families
 pub mod Joining
 pub mod KeptLemmas
 pub mod Keyed
 pub mod Places
 pub mod RightLemmas
+pub mod StopLemmas
+pub mod StopLaw
 pub mod ToldLemmas
 pub mod TorrentLemmas
 pub mod TidyLaw

@@ -28,7 +28,7 @@ use Rattle.tracker_model.specs.declared.limits.TheConstants.{PEER_MINUTES}
 use Rattle.tracker_model.proofs.CountLemmas.{how_many-stored, counts_of-stored}
 use Rattle.tracker_model.proofs.KeyedLemmas.{keys_apart, is_member-passing}
 use Rattle.bucket.specs.Peers.{is_other}
-use Rattle.bucket.specs.Torrents.{of_family, counted, others_told}
+use Rattle.bucket.specs.Torrents.{of_family, counts_at, other_endpoints}
 use Rattle.bucket.proofs.Families.{Distinct, distinct_front, and_left, and_right}
 use Rattle.bucket.proofs.KeptLemmas.{standing, known_found}
 
@@ -106,7 +106,7 @@ module _ (past : List Entry) (stored : List Torrent) (kept : Keeps past (time_of
   stored_are : stored_peers stored h ≡ peers_of t
   stored_are = ap (λ o. option_map_or peers_of o []) found
 
-  pub told_counts : is_known_in (time_of past) t ≡ true → counts_of past h ≡ counted (time_of past) t
+  pub told_counts : is_known_in (time_of past) t ≡ true → counts_of past h ≡ counts_at (time_of past) t
   told_counts recent =
       let now = time_of past in
       let told = λ (c d i : ℕ). (let counts : Counts = record { complete = c; downloaded = d; incomplete = i } in counts) in
@@ -116,7 +116,7 @@ module _ (past : List Entry) (stored : List Torrent) (kept : Keeps past (time_of
       ∙ ap (λ l. told (number is_seed l) (downloads_in (known_in now stored h)) (number is_leecher l)) stored_are
       ∙ ap (λ n. told (number is_seed (peers_of t)) n (number is_leecher (peers_of t))) known
 
-  pub told_fair : (asker : Endpoint) (want : ℕ) → IsFair past h asker want (others_told (time_of past) asker want t)
+  pub told_fair : (asker : Endpoint) (want : ℕ) → IsFair past h asker want (other_endpoints (time_of past) asker want t)
   told_fair asker want =
       let now = time_of past in
       let who = λ (held : Held). held.who in

@@ -1,5 +1,5 @@
 -- Stored torrents: their lengths, and where they stand in a list.
-use Rattle.std.proofs.Common.{◌≡◌, ℕ, ◌+◌, ◌<◌, ◌≤◌, not, ◌&&◌, List, [], ◌∷◌, ◌++◌, Some, None, refl, sym, ◌∙◌, ap, arith, length, length-append, get_or, get_or-set_same, if◌then◌else◌}
+use Rattle.std.proofs.Common.{◌≡◌, ℕ, Bool, ◌+◌, ◌<◌, ◌≤◌, not, ◌&&◌, List, [], ◌∷◌, ◌++◌, Some, None, refl, sym, ◌∙◌, ap, arith, length, length-append, get_or, get_or-set_same, if◌then◌else◌}
 use Rattle.std.proofs.Math.ListN.{set, length-set}
 use Rattle.std.proofs.lemmas.List.Quantifiers.{position-Some}
 use Rattle.std.proofs.lemmas.List.Sums.{length-filter, count_by-le-length}
@@ -19,7 +19,7 @@ use Rattle.tracker_model.specs.Known.{is_seed}
 use Rattle.tracker_model.specs.Steps.{one_more}
 use Rattle.bucket.specs.Joins.{StandsAt}
 use Rattle.bucket.specs.Peers.{put_peer}
-use Rattle.bucket.specs.Torrents.{AreWithin, put_torrent, of_family, with_family, without_stale, joined}
+use Rattle.bucket.specs.Torrents.{AreWithin, put_torrent, of_family, with_family, with_only, without_stale, with_peer}
 use Rattle.bucket.specs.declared.stored.Joining.{Joining}
 use Rattle.bucket.proofs.Keyed.{put_at, put_last, length-put, all_filtered}
 
@@ -27,7 +27,7 @@ pub hash-with_family : (f : Family) (peers : List Held) (t : Torrent) → (with_
 hash-with_family Four peers t = refl
 hash-with_family Six peers t = refl
 
-pub hash-joined : (minute : ℕ) (j : Joining) (t : Torrent) → (joined minute j t).hash ≡ t.hash
+pub hash-joined : (minute : ℕ) (j : Joining) (t : Torrent) → (with_peer minute j t).hash ≡ t.hash
 hash-joined minute j t = hash-with_family (family_of j.who.addr) _ _
 
 length-with_family : (f : Family) (peers : List Held) (t : Torrent) (n : ℕ) → length peers ≡ length (of_family f t) + n → length (peers_of (with_family f peers t)) ≡ length (peers_of t) + n
@@ -40,7 +40,7 @@ of_family-touched Six t touch count = refl
 
 -- an endpoint that takes part is one more peer, unless it is one already
 pub length-joined : (minute : ℕ) (j : Joining) (t : Torrent) →
-    length (peers_of (joined minute j t)) ≡ length (peers_of t) + (if is_some (held_of (of_family (family_of j.who.addr) t) j.who) then 0 else 1)
+    length (peers_of (with_peer minute j t)) ≡ length (peers_of t) + (if is_some (held_of (of_family (family_of j.who.addr) t) j.who) then 0 else 1)
 length-joined minute j t =
     let f = family_of j.who.addr in
     let held : Held = record { who = j.who; seed = j.seed; stamp = record { 0 = minute } } in
@@ -48,17 +48,20 @@ length-joined minute j t =
     (length-put same_endpoint (λ h. h.who) same_endpoint_decides held (of_family f t)
     ∙ ap (λ l. length l + (if is_some (held_of (of_family f t) j.who) then 0 else 1)) (sym (of_family-touched f t _ _)))
 
-pub length-without_stale : (minute : ℕ) (t : Torrent) → length (peers_of (without_stale minute t)) ≤ length (peers_of t)
-length-without_stale minute t =
+pub length-with_only : (p : Held → Bool) (t : Torrent) → length (peers_of (with_only p t)) ≤ length (peers_of t)
+length-with_only p t =
     omega (
       arith,
       length-append t.fours t.sixes,
-      length-append (filter (is_live_in minute) t.fours) (filter (is_live_in minute) t.sixes),
-      length-filter (is_live_in minute) t.fours,
-      length-filter (is_live_in minute) t.sixes,
-      count_by-le-length (is_live_in minute) t.fours,
-      count_by-le-length (is_live_in minute) t.sixes,
+      length-append (filter p t.fours) (filter p t.sixes),
+      length-filter p t.fours,
+      length-filter p t.sixes,
+      count_by-le-length p t.fours,
+      count_by-le-length p t.sixes,
     )
+
+pub length-without_stale : (minute : ℕ) (t : Torrent) → length (peers_of (without_stale minute t)) ≤ length (peers_of t)
+length-without_stale minute t = length-with_only (is_live_in minute) t
 
 pub within_known : (limits : Limits) (minute : ℕ) (torrents : List Torrent) → AreWithin limits torrents → AreWithin limits (known_torrents minute torrents)
 within_known limits minute torrents within = record {
@@ -87,7 +90,7 @@ pub stands_pushed : (kept : List Torrent) (t : Torrent) → StandsAt (kept ++ t 
 stands_pushed [] t = refl
 stands_pushed (k ∷ kept) t = stands_pushed kept t
 
-pub touch-joined : (minute : ℕ) (j : Joining) (t : Torrent) → (joined minute j t).touch ≡ minute
+pub touch-joined : (minute : ℕ) (j : Joining) (t : Torrent) → (with_peer minute j t).touch ≡ minute
 touch-joined minute j t = by_family (family_of j.who.addr) _ _
   where
     by_family : (f : Family) (peers : List Held) (count : ℕ) → (with_family f peers (record t { touch = minute; downloaded = count })).touch ≡ minute
@@ -95,7 +98,7 @@ touch-joined minute j t = by_family (family_of j.who.addr) _ _
     by_family Six peers count = refl
 
 pub downloaded-joined : (minute : ℕ) (j : Joining) (t : Torrent) →
-    (joined minute j t).downloaded ≡ one_more (j.completed && not (is_seed (held_of (of_family (family_of j.who.addr) t) j.who))) t.downloaded
+    (with_peer minute j t).downloaded ≡ one_more (j.completed && not (is_seed (held_of (of_family (family_of j.who.addr) t) j.who))) t.downloaded
 downloaded-joined minute j t = by_family (family_of j.who.addr) _ _
   where
     by_family : (f : Family) (peers : List Held) (count : ℕ) → (with_family f peers (record t { touch = minute; downloaded = count })).downloaded ≡ count

@@ -5,9 +5,13 @@ use Rattle.ot_base.specs.declared.address.Endpoint.{Endpoint}
 use Rattle.ot_base.specs.declared.peer.Held.{Held}
 use Rattle.tracker_model.specs.Shape.{is_live_in}
 
+-- whether a stored peer has another endpoint
+abbrev pub is_another : Endpoint → Held → Bool
+is_another who held = not (same_endpoint held.who who)
+
 -- whether a stored peer is live at a minute and isn't the asker
 abbrev pub is_other : ℕ → Endpoint → Held → Bool
-is_other minute asker held = is_live_in minute held && not (same_endpoint held.who asker)
+is_other minute asker held = is_live_in minute held && is_another asker held
 
 -- a list with an element in the place of the first of the same key, or else at the end
 abbrev pub put_by : {K X : Type 0} → (K → K → Bool) → (X → K) → X → List X → List X

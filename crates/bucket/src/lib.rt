@@ -4,7 +4,9 @@
 
 pub mod bucket;
 mod join;
+mod peer_list;
 mod stored;
+mod table;
 #[cfg(test)]
 mod tests;
 

@@ -1,8 +1,8 @@
 //! What no clause says: worked values.
 
 ghost use Rattle.std.specs.Prelude.{◌≡◌, ◌≤◌, true, false};
-ghost use Rattle.tracker_model.specs.Calls.{IsPeer, IsWellFormed};
-ghost use Rattle.bucket.specs.Announces.{AreLimits, is_announce};
+ghost use Rattle.tracker_model.specs.Calls.{IsPeer, IsWellFormed, is_request};
+ghost use Rattle.tracker_model.specs.Settings.{AreLimits};
 
 use super::*;
 use ot_base::{Addr, Endpoint, InfoHash, Limits, Minute};
@@ -39,27 +39,31 @@ const USUAL: Limits = Limits {
     torrents: 65_536,
 };
 
-/// How a peer takes part.
+/// What a peer asks.
 #[derive(Clone, Copy)]
-enum As {
+enum Asks {
     Leecher,
     Seed,
     /// A seed that has just finished its download.
     Finisher,
+    Stop,
+    Scrape,
 }
 
-/// What an announce is answered.
+/// What it is answered.
 #[derive(Clone, Copy, Debug, PartialEq)]
-enum Said {
+enum Outcome {
     /// Seeds, downloads and leechers, and the number of the one peer that is told, if one is.
     Told(u32, u32, u32, Option<u8>),
+    /// The same counts, and whether the torrent is known.
+    Stats(u32, u32, u32, bool),
     SwarmFull(u32),
     BucketFull(u32),
     Otherwise,
 }
 
-/// The minute, the torrent, the peer's number, how it takes part, and what it is told.
-type Step = (u32, InfoHash, u8, As, Said);
+/// A label, the minute, the torrent, the peer's number, what it asks, and what it is answered.
+type Step = (&'static str, u32, InfoHash, u8, Asks, Outcome);
 
 /// The last byte of the one peer that is told, if it is one and has an IPv4 address.
 fn only_one(peers: &[Endpoint]) -> Option<u8> {
@@ -72,48 +76,57 @@ fn only_one(peers: &[Endpoint]) -> Option<u8> {
     }
 }
 
-fn outcome_of(answer: &Answer) -> Said {
+fn outcome_of(answer: &Answer) -> Outcome {
     match answer {
-        Answer::Told { counts, peers } => Said::Told(
+        Answer::Told { counts, peers } => Outcome::Told(
             counts.complete,
             counts.downloaded,
             counts.incomplete,
             only_one(peers.as_slice()),
         ),
-        Answer::SwarmFull { count } => Said::SwarmFull(*count),
-        Answer::BucketFull { count } => Said::BucketFull(*count),
-        _ => Said::Otherwise,
+        Answer::Stats { counts, known } => Outcome::Stats(
+            counts.complete,
+            counts.downloaded,
+            counts.incomplete,
+            *known,
+        ),
+        Answer::SwarmFull { count } => Outcome::SwarmFull(*count),
+        Answer::BucketFull { count } => Outcome::BucketFull(*count),
+        Answer::Rows { .. }
+        | Answer::Cleaned { .. }
+        | Answer::Applied
+        | Answer::Drained { .. }
+        | Answer::NoMemory => Outcome::Otherwise,
     }
 }
 
-fn announce_as(hash: InfoHash, who: Endpoint, role: As, want: u32) -> Call
+fn announce(hash: InfoHash, who: Endpoint, seed: bool, completed: bool, want: u32) -> Call
     requires peer { IsPeer who }
+    requires finished { completed ≡ true → seed ≡ true }
     requires wanted { want ≤ 200 }
     ensures formed { IsWellFormed result }
-    ensures announce { is_announce result ≡ true }
+    ensures request { is_request result ≡ true }
 {
-    match role {
-        As::Leecher => Call::Announce {
-            hash,
-            who,
-            seed: false,
-            completed: false,
-            want,
-        },
-        As::Seed => Call::Announce {
-            hash,
-            who,
-            seed: true,
-            completed: false,
-            want,
-        },
-        As::Finisher => Call::Announce {
-            hash,
-            who,
-            seed: true,
-            completed: true,
-            want,
-        },
+    Call::Announce {
+        hash,
+        who,
+        seed,
+        completed,
+        want,
+    }
+}
+
+fn call_of(hash: InfoHash, who: Endpoint, asks: Asks) -> Call
+    requires peer { IsPeer who }
+    ensures formed { IsWellFormed result }
+    ensures request { is_request result ≡ true }
+{
+    match asks {
+        Asks::Leecher => announce(hash, who, false, false, 50),
+        Asks::Seed => announce(hash, who, true, false, 50),
+        Asks::Finisher => announce(hash, who, true, true, 50),
+        Asks::Stop => Call::Stop { hash, who },
+        Asks::Scrape => Call::Scrape { hash },
     }
 }
 
@@ -121,7 +134,7 @@ fn announce_as(hash: InfoHash, who: Endpoint, role: As, want: u32) -> Call
 fn ask(bucket: &mut Bucket, minute: u32, call: Call) -> Answer
     requires formed { IsWellFormed call }
     requires alone { bucket.old.settings.sync ≡ false }
-    requires announce { is_announce call ≡ true }
+    requires request { is_request call ≡ true }
     ensures { bucket.new.settings ≡ bucket.old.settings }
 {
     match bucket.call(0, Minute(minute), call, &WORDS) {
@@ -134,95 +147,148 @@ fn follow(rt: &(impl Abort + AllocGlobal), limits: Limits, steps: &[Step]) -> Re
     requires { AreLimits limits }
 {
     let mut bucket = Bucket::new(rt.alloc(), limits, false)?;
-    for (minute, hash, n, role, want) in steps {
-        let call = announce_as(*hash, numbered(*n), *role, 50);
-        let answer = ask(&mut bucket, *minute, call);
-        assert_eq!(rt; outcome_of(&answer), *want, "peer {n} at minute {minute}");
+    for (label, minute, hash, n, asks, want) in steps {
+        let answer = ask(&mut bucket, *minute, call_of(*hash, numbered(*n), *asks));
+        assert_eq!(rt; outcome_of(&answer), *want, "{label}");
     }
     Ok(())
 }
 
 #[test]
-fn worked_announces(rt: HostRuntime) -> Result<(), Fail> {
-    let two_peers = Limits { peers: 2, ..USUAL };
-    let one_torrent = Limits {
+fn peers_age_out_and_time_never_falls(rt: HostRuntime) -> Result<(), Fail> {
+    use Asks::{Leecher, Scrape};
+    use Outcome::{Stats, Told};
+    follow(
+        &rt,
+        USUAL,
+        &[
+            ("the first one", 8, A, 1, Leecher, Told(0, 0, 1, None)),
+            ("stamped with 8", 7, A, 2, Leecher, Told(0, 0, 2, Some(1))),
+            ("both live", 52, A, 0, Scrape, Stats(0, 0, 2, true)),
+            ("both gone", 53, A, 0, Scrape, Stats(0, 0, 0, true)),
+            ("time stays", 8, A, 0, Scrape, Stats(0, 0, 0, true)),
+            ("anew", 60, A, 1, Leecher, Told(0, 0, 1, None)),
+            ("live", 104, A, 2, Leecher, Told(0, 0, 2, Some(1))),
+            ("gone", 105, A, 2, Leecher, Told(0, 0, 1, None)),
+        ],
+    )
+}
+
+#[test]
+fn a_download_counts_once_until_its_peer_has_left(rt: HostRuntime) -> Result<(), Fail> {
+    use Asks::{Finisher, Leecher, Seed, Stop};
+    use Outcome::Told;
+    follow(
+        &rt,
+        USUAL,
+        &[
+            ("finished", 0, A, 1, Finisher, Told(1, 1, 0, None)),
+            ("again", 0, A, 1, Finisher, Told(1, 1, 0, None)),
+            ("stopped", 0, A, 1, Stop, Told(0, 1, 0, None)),
+            ("after its stop", 0, A, 1, Finisher, Told(1, 2, 0, None)),
+            ("a seed from the start", 0, B, 1, Seed, Told(1, 0, 0, None)),
+            ("was a seed", 0, B, 1, Finisher, Told(1, 0, 0, None)),
+            ("a leecher", 0, B, 1, Leecher, Told(0, 0, 1, None)),
+            ("was a leecher", 0, B, 1, Finisher, Told(1, 1, 0, None)),
+            ("after 45 minutes", 45, A, 1, Finisher, Told(1, 3, 0, None)),
+        ],
+    )
+}
+
+#[test]
+fn full_torrents_and_buckets_refuse_newcomers(rt: HostRuntime) -> Result<(), Fail> {
+    use Asks::{Leecher, Stop};
+    use Outcome::{BucketFull, SwarmFull, Told};
+    let narrow = Limits {
+        peers: 2,
         torrents: 1,
-        ..USUAL
     };
-    // A seed, and a leecher that is told of it.
+    follow(
+        &rt,
+        narrow,
+        &[
+            ("the first", 0, A, 1, Leecher, Told(0, 0, 1, None)),
+            ("the second", 1, A, 2, Leecher, Told(0, 0, 2, Some(1))),
+            (
+                "one that is in it",
+                1,
+                A,
+                2,
+                Leecher,
+                Told(0, 0, 2, Some(1)),
+            ),
+            ("a third", 1, A, 3, Leecher, SwarmFull(2)),
+            ("another torrent", 1, B, 1, Leecher, BucketFull(1)),
+            (
+                "as the first ages out",
+                45,
+                A,
+                3,
+                Leecher,
+                Told(0, 0, 2, Some(2)),
+            ),
+            ("the second leaves", 45, A, 2, Stop, Told(0, 0, 1, None)),
+            ("in its place", 45, A, 1, Leecher, Told(0, 0, 2, Some(3))),
+            ("known for a day", 1484, B, 1, Leecher, BucketFull(1)),
+            ("then forgotten", 1485, B, 1, Leecher, Told(0, 0, 1, None)),
+        ],
+    )
+}
+
+#[test]
+fn a_stop_takes_out_its_own_peer_alone(rt: HostRuntime) -> Result<(), Fail> {
+    use Asks::{Leecher, Scrape, Seed, Stop};
+    use Outcome::{Stats, Told};
     follow(
         &rt,
         USUAL,
         &[
-            (0, A, 1, As::Seed, Said::Told(1, 0, 0, None)),
-            (0, A, 2, As::Leecher, Said::Told(1, 0, 1, Some(1))),
+            ("an unknown torrent", 0, A, 1, Stop, Told(0, 0, 0, None)),
+            ("is still unknown", 0, A, 0, Scrape, Stats(0, 0, 0, false)),
+            ("a seed", 0, A, 1, Seed, Told(1, 0, 0, None)),
+            ("a leecher", 0, A, 2, Leecher, Told(1, 0, 1, Some(1))),
+            ("a stranger", 0, A, 3, Stop, Told(1, 0, 1, None)),
+            ("the seed", 0, A, 1, Stop, Told(0, 0, 1, None)),
+            ("the seed again", 0, A, 1, Stop, Told(0, 0, 1, None)),
+            (
+                "the seed's other torrent",
+                0,
+                B,
+                1,
+                Seed,
+                Told(1, 0, 0, None),
+            ),
+            ("the leecher, too late", 45, A, 2, Stop, Told(0, 0, 0, None)),
         ],
-    )?;
-    // A seed that turns leecher.
+    )
+}
+
+#[test]
+fn stops_and_scrapes_keep_no_torrent_known(rt: HostRuntime) -> Result<(), Fail> {
+    use Asks::{Finisher, Leecher, Scrape, Stop};
+    use Outcome::{Stats, Told};
     follow(
         &rt,
         USUAL,
         &[
-            (0, A, 1, As::Seed, Said::Told(1, 0, 0, None)),
-            (0, A, 1, As::Leecher, Said::Told(0, 0, 1, None)),
+            ("the first", 0, A, 1, Finisher, Told(1, 1, 0, None)),
+            (
+                "its last announce",
+                10,
+                A,
+                2,
+                Leecher,
+                Told(1, 1, 1, Some(1)),
+            ),
+            ("live", 44, A, 0, Scrape, Stats(1, 1, 1, true)),
+            ("one is gone", 45, A, 0, Scrape, Stats(0, 1, 1, true)),
+            ("stopped", 46, A, 2, Stop, Told(0, 1, 0, None)),
+            ("nobody is left", 46, A, 0, Scrape, Stats(0, 1, 0, true)),
+            ("known for a day", 1449, A, 0, Scrape, Stats(0, 1, 0, true)),
+            ("then forgotten", 1450, A, 0, Scrape, Stats(0, 0, 0, false)),
+            ("and told nothing", 1450, A, 2, Stop, Told(0, 0, 0, None)),
         ],
-    )?;
-    // A peer is live at an age of 44 minutes, and gone at 45.
-    follow(
-        &rt,
-        USUAL,
-        &[
-            (0, A, 1, As::Leecher, Said::Told(0, 0, 1, None)),
-            (44, A, 2, As::Leecher, Said::Told(0, 0, 2, Some(1))),
-            (45, A, 2, As::Leecher, Said::Told(0, 0, 1, None)),
-        ],
-    )?;
-    // Time doesn't fall: the second peer's stamp is 8.
-    follow(
-        &rt,
-        USUAL,
-        &[
-            (8, A, 1, As::Leecher, Said::Told(0, 0, 1, None)),
-            (7, A, 2, As::Leecher, Said::Told(0, 0, 2, Some(1))),
-            (52, A, 1, As::Leecher, Said::Told(0, 0, 2, Some(2))),
-            (53, A, 1, As::Leecher, Said::Told(0, 0, 1, None)),
-        ],
-    )?;
-    // A download counts once, and not of what was a seed.
-    follow(
-        &rt,
-        USUAL,
-        &[
-            (0, A, 1, As::Finisher, Said::Told(1, 1, 0, None)),
-            (0, A, 1, As::Finisher, Said::Told(1, 1, 0, None)),
-            (0, B, 1, As::Seed, Said::Told(1, 0, 0, None)),
-            (0, B, 1, As::Finisher, Said::Told(1, 0, 0, None)),
-            (45, A, 1, As::Finisher, Said::Told(1, 2, 0, None)),
-        ],
-    )?;
-    // A full torrent has room again as a peer ages out.
-    follow(
-        &rt,
-        two_peers,
-        &[
-            (0, A, 1, As::Leecher, Said::Told(0, 0, 1, None)),
-            (0, A, 2, As::Leecher, Said::Told(0, 0, 2, Some(1))),
-            (1, A, 2, As::Leecher, Said::Told(0, 0, 2, Some(1))),
-            (1, A, 3, As::Leecher, Said::SwarmFull(2)),
-            (45, A, 3, As::Leecher, Said::Told(0, 0, 2, Some(2))),
-        ],
-    )?;
-    // A full bucket has room again as a torrent is forgotten.
-    follow(
-        &rt,
-        one_torrent,
-        &[
-            (0, A, 1, As::Leecher, Said::Told(0, 0, 1, None)),
-            (1439, B, 1, As::Leecher, Said::BucketFull(1)),
-            (1440, B, 1, As::Leecher, Said::Told(0, 0, 1, None)),
-        ],
-    )?;
-    Ok(())
+    )
 }
 
 /// How many peers a newcomer is told among so many others.
@@ -232,12 +298,14 @@ fn told_among(rt: &(impl Abort + AllocGlobal), others: u16, want: u32) -> Result
     let mut bucket = Bucket::new(rt.alloc(), USUAL, false)?;
     for n in 0..others {
         let [high, low] = n.to_be_bytes();
-        let call = announce_as(A, at([10, 0, high, low]), As::Leecher, 0);
-        ask(&mut bucket, 0, call);
+        ask(
+            &mut bucket,
+            0,
+            announce(A, at([10, 0, high, low]), false, false, 0),
+        );
     }
     assert_eq!(rt; bucket.held(), u64::from(others));
-    let call = announce_as(A, numbered(1), As::Leecher, want);
-    match ask(&mut bucket, 0, call) {
+    match ask(&mut bucket, 0, announce(A, numbered(1), false, false, want)) {
         Answer::Told { peers, .. } => Ok(peers.len()),
         _ => Ok(usize::MAX),
     }
@@ -245,13 +313,17 @@ fn told_among(rt: &(impl Abort + AllocGlobal), others: u16, want: u32) -> Result
 
 #[test]
 fn as_many_peers_as_are_wanted(rt: HostRuntime) -> Result<(), Fail> {
-    assert_eq!(rt; told_among(&rt, 199, 200)?, 199);
-    assert_eq!(rt; told_among(&rt, 200, 200)?, 200);
-    assert_eq!(rt; told_among(&rt, 201, 200)?, 200);
-    assert_eq!(rt; told_among(&rt, 201, 50)?, 50);
-    assert_eq!(rt; told_among(&rt, 201, 0)?, 0);
-    assert_eq!(rt; told_among(&rt, 0, 200)?, 0);
-    assert_eq!(rt; told_among(&rt, 1000, 200)?, 200);
+    for (others, want, told) in [
+        (199, 200, 199),
+        (200, 200, 200),
+        (201, 200, 200),
+        (201, 50, 50),
+        (201, 0, 0),
+        (0, 200, 0),
+        (1000, 200, 200),
+    ] {
+        assert_eq!(&rt; told_among(&rt, others, want)?, told, "{want} of {others}");
+    }
     Ok(())
 }
 
@@ -259,8 +331,10 @@ fn as_many_peers_as_are_wanted(rt: HostRuntime) -> Result<(), Fail> {
 fn time_and_stored_peers(rt: HostRuntime) -> Result<(), Fail> {
     let mut bucket = Bucket::new(rt.alloc(), USUAL, false)?;
     assert_eq!(rt; (bucket.time(), bucket.held()), (Minute(0), 0));
-    ask(&mut bucket, 8, announce_as(A, numbered(1), As::Leecher, 0));
-    ask(&mut bucket, 7, announce_as(B, numbered(1), As::Leecher, 0));
+    ask(&mut bucket, 8, call_of(A, numbered(1), Asks::Leecher));
+    ask(&mut bucket, 7, call_of(B, numbered(1), Asks::Leecher));
     assert_eq!(rt; (bucket.time(), bucket.held()), (Minute(8), 2));
+    ask(&mut bucket, 9, call_of(B, numbered(1), Asks::Stop));
+    assert_eq!(rt; (bucket.time(), bucket.held()), (Minute(9), 1));
     Ok(())
 }

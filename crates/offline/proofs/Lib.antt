@@ -1,9 +1,4 @@
-pub mod Along
-pub mod FeedLemmas
-pub mod LineLemmas
-pub mod ReplayLemmas
-pub mod RunLemmas
-pub mod TraceBytes
-pub mod TraceFamily
-pub mod TraceFields
-pub mod TraceNumbers
+pub mod Announcing
+pub mod Following
+pub mod Replaying
+pub mod Scraping

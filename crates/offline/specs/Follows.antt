@@ -1,12 +1,16 @@
 -- How a replay follows the histories of one thread's tracker.
-use Rattle.std.specs.Prelude.{◌≡◌, ℕ, List}
-use Rattle.tracker_model.specs.Stands.{Stands}
+use Rattle.std.specs.Prelude.{◌≡◌, ℕ, List, [], ◌∷◌}
+use Rattle.tracker_model.specs.Stands.{StandsFor}
 use Rattle.tracker_model.specs.declared.entry.Entry.{Entry}
 use Rattle.offline.specs.Replay.{IsAnswered}
 use Rattle.offline.specs.declared.replay.Replay.{Replay}
 
--- The line is answered after every history that the bucket stands for, and the bucket stands for the next one then.
+-- The line is answered after every history that the bucket stands for, and the bucket then stands
+-- for the history that follows.
 pub record Follows (old : Replay) (line text : List ℕ) (new : Replay) : Type 0 where
   pub secret : new.secret ≡ old.secret
   pub settings : new.bucket.settings ≡ old.bucket.settings
-  pub answered : (history : List Entry) → Stands history old.bucket → (next : List Entry) × IsAnswered old.secret old.bucket.settings history line text next × Stands next new.bucket
+  pub answered : (history : List Entry) → StandsFor history old.bucket →
+      (next : List Entry)
+      × IsAnswered old.secret old.bucket.settings (history ∷ []) line text (next ∷ [])
+      × StandsFor next new.bucket

@@ -1,8 +1,5 @@
 pub mod Command
-pub mod Feed
 pub mod Follows
-pub mod Lines
-pub mod Plan
+pub mod Outcome
+pub mod Records
 pub mod Replay
-pub mod Run
-pub mod Trace

@@ -1,13 +1,12 @@
-//! Replay of a recorded trace: each record is answered as the tracker would have answered it.
+//! The commands that read an input to its end and touch nothing else: the replay of a recorded
+//! trace, in which each record is answered as the tracker would have answered it.
 #![tactic(auto)]
 
-mod command;
-mod lines;
-mod plan;
+mod carry_out;
+pub mod command;
+mod output;
 mod replay;
-mod run;
 #[cfg(test)]
 mod tests;
-mod trace;
 
-pub use command::{Offline, run_offline, run_words};
+pub use command::{Offline, run_offline};

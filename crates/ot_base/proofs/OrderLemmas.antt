@@ -1,5 +1,5 @@
 -- The order of hashes is total, and ties where they are the same.
-use Rattle.std.proofs.Common.{◌≡◌, Bool, refl, sym}
+use Rattle.std.proofs.Common.{◌≡◌, sym}
 use Rattle.std.specs.Cmp.{IsTotalOrder}
 use Rattle.std.specs.Cmp.Lexicographic.{nat_list_cmp_total}
 use Rattle.std.specs.Ordering.{eq_by_cmp}

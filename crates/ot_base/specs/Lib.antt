@@ -1,4 +1,5 @@
 pub mod Address
+pub mod Fault
 pub mod Hash
 pub mod Minute
 pub mod Order

@@ -1,7 +1,9 @@
 -- What a refused client is told.
 use Rattle.std.specs.Prelude.{ℕ, List, codes}
 use Rattle.ot_base.specs.declared.refusal.Refusal.{Refusal}
-use Rattle.ot_base.specs.declared.refusal.Refusal.TheVariants.{ConnectionId, Action, MissingHash, BadHash, MissingPort, BadPort, Denied, SwarmFull, TrackerFull}
+use Rattle.ot_base.specs.declared.refusal.Refusal.TheVariants.{ConnectionId, Action, MissingHash}
+use Rattle.ot_base.specs.declared.refusal.Refusal.TheVariants.{BadHash, MissingPort, BadPort}
+use Rattle.ot_base.specs.declared.refusal.Refusal.TheVariants.{Denied, SwarmFull, TrackerFull}
 
 abbrev pub refusal_text : Refusal → List ℕ
 refusal_text ConnectionId = codes "bad connection id"

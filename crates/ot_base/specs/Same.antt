@@ -1,5 +1,5 @@
 -- Tests of being the same, which compute.
-use Rattle.std.specs.Prelude.{Bool, false, ◌&&◌, ◌==◌}
+use Rattle.std.specs.Prelude.{Bool, true, false, ◌&&◌, ◌==◌}
 use Rattle.std.specs.Str.{bytes_eq}
 use Rattle.ot_base.specs.declared.hash.InfoHash.{InfoHash}
 use Rattle.ot_base.specs.declared.address.Addr.{Addr}
@@ -7,7 +7,6 @@ use Rattle.ot_base.specs.declared.address.Addr.TheVariants.{V4, V6}
 use Rattle.ot_base.specs.declared.address.Endpoint.{Endpoint}
 use Rattle.ot_base.specs.declared.address.Family.{Family}
 use Rattle.ot_base.specs.declared.address.Family.TheVariants.{Four, Six}
-use Rattle.std.specs.Prelude.{true}
 
 abbrev pub same_hash : InfoHash → InfoHash → Bool
 same_hash a b = bytes_eq a.0 b.0

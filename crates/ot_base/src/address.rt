@@ -1,10 +1,8 @@
 //! Addresses and endpoints.
 
 ghost use Rattle.std.specs.Prelude.{◌≡◌};
-ghost use Rattle.ot_base.specs.Address.{address_of_six, wide_bytes, family_of, unspecified, no_endpoint};
-
-/// What an IPv4-mapped IPv6 address begins with.
-const MAPPED_FRONT: [u8; 12] = [0, 0, 0, 0, 0, 0, 0, 0, 0, 0, 255, 255];
+ghost use Rattle.ot_base.specs.Address.{address_of_six, wide_bytes, family_of};
+ghost use Rattle.ot_base.specs.Address.{unspecified, no_endpoint};
 
 /// An IP address, its bytes in network order. All of IPv4 stands before all of IPv6 in the order.
 #[derive(Clone, Copy, Debug, PartialEq, Eq, PartialOrd, Ord, Hash)]
@@ -15,23 +13,36 @@ pub enum Addr {
     V6([u8; 16]),
 }
 
-/// An address and a port in host order, where one peer listens.
+/// Where one peer listens.
 #[derive(Clone, Copy, Debug, PartialEq, Eq, PartialOrd, Ord, Hash)]
 pub struct Endpoint {
     pub addr: Addr,
+    /// The port of TCP and UDP, in host order.
     pub port: u16,
 }
 
 /// Which of the two kinds of address.
 #[derive(Clone, Copy, Debug, PartialEq, Eq, PartialOrd, Ord, Hash)]
 pub enum Family {
+    /// IPv4.
     Four,
+    /// IPv6.
     Six,
 }
 
+/// The unspecified IPv4 address, 0.0.0.0, with port 0, which no peer has. All of its bytes are
+/// zero.
+pub const NO_ENDPOINT: Endpoint = Endpoint {
+    addr: Addr::V4([0; 4]),
+    port: 0,
+};
+
+/// What an IPv4-mapped IPv6 address begins with.
+const MAPPED_FRONT: [u8; 12] = [0, 0, 0, 0, 0, 0, 0, 0, 0, 0, 255, 255];
+
 impl Addr {
-    /// The address that 16 bytes in network order name. An IPv4-mapped IPv6 address (RFC 4291, 2.5.5.2)
-    /// is read as the IPv4 address that it holds.
+    /// The address that 16 bytes in network order name. An IPv4-mapped IPv6 address (RFC 4291,
+    /// 2.5.5.2) is read as the IPv4 address that it holds.
     pub fn of_six(bytes: [u8; 16]) -> Addr
         ensures { result ≡ address_of_six bytes }
     {
@@ -54,6 +65,7 @@ impl Addr {
         }
     }
 
+    /// Which kind of address it is.
     pub fn family(self) -> Family
         ensures { result ≡ family_of self }
     {
@@ -78,9 +90,6 @@ impl Default for Endpoint {
     ghost is_default = { λ e. e ≡ no_endpoint };
 
     fn default() -> Self {
-        Endpoint {
-            addr: Addr::default(),
-            port: 0,
-        }
+        NO_ENDPOINT
     }
 }

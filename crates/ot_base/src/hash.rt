@@ -11,8 +11,8 @@ pub struct InfoHash(pub [u8; 20]);
 #[derive(Clone, Copy, Debug, PartialEq, Eq)]
 pub struct Secret(pub [u8; 20]);
 
-/// The number of the bucket that keeps a torrent, of 2^`bits` buckets: the number that the first `bits`
-/// bits of its hash make, the most significant first.
+/// The number of the bucket that keeps a torrent, of 2^`bits` buckets: the number that the first
+/// `bits` bits of its hash make, the most significant first.
 pub fn bucket_of(hash: &InfoHash, bits: u32) -> u32
     requires { bits ≤ 10 }
     ensures { result ≡ first_bits hash.now.0 bits }

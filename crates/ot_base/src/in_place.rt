@@ -2,152 +2,99 @@
 
 ghost use Rattle.std.specs.Prelude.{◌≡◌, ◌==◌, ◌<◌, ◌≤◌, [], ◌∷◌, ◌++◌, length, slice_get, Some};
 
-use crate::{Endpoint, InfoHash};
+use crate::{Counts, InfoHash};
 use arrayvec::ArrayVec;
 use std::marker::Model;
-
-/// How many peers an announce is told at most.
-pub const PEERS: usize = 200;
 
 /// How many hashes a UDP scrape asks for at most.
 pub const HASHES: usize = 74;
 
-/// At most 200 endpoints, kept in place. Contracts see them in order.
+/// How many bytes a short text has at most.
+pub const TEXT: usize = 200;
+
+/// At most `N` elements, kept in place. Contracts see them in order.
+///
+/// The unused places hold the elements' default. An element with padding bytes is filled in one by
+/// one, so a long list of such elements is dear to make.
 #[derive(Debug, Drop)]
-pub struct Peers {
-    endpoints: ArrayVec<Endpoint, PEERS>,
+pub struct InPlace<T, const N: usize> {
+    elements: ArrayVec<T, N>,
 }
 
-impl Model for Peers {
+/// The hashes that a UDP scrape asks for.
+pub type Hashes = InPlace<InfoHash, HASHES>;
+
+/// The counts of as many torrents as a UDP scrape asks for.
+pub type CountList = InPlace<Counts, HASHES>;
+
+/// A short text.
+pub type Text = InPlace<u8, TEXT>;
+
+impl<T, const N: usize> Model for InPlace<T, N> {
     ghost use Rattle.std.specs.Prelude.{List};
-    ghost use Rattle.ot_base.specs.declared.address.Endpoint.{Endpoint};
 
-    ghost Value = { List Endpoint };
+    ghost Value = { List T };
 
-    ghost view = { λ p. p.endpoints.items };
+    ghost view = { λ list. list.elements.items };
 }
 
-impl Peers {
+impl<T: Default, const N: usize> InPlace<T, N> {
+    /// An empty list.
     pub fn new() -> Self
         ensures { result ≡ [] }
     {
-        Peers {
-            endpoints: ArrayVec::new(),
+        InPlace {
+            elements: ArrayVec::new(),
         }
     }
+}
 
+impl<T, const N: usize> InPlace<T, N> {
     pub fn len(&self) -> usize
         ensures value { result ≡ length self.now }
-        ensures fits { result ≤ PEERS }
+        ensures fits { result ≤ N }
     {
-        self.endpoints.len()
+        self.elements.len()
     }
 
     pub fn is_empty(&self) -> bool
         ensures { result ≡ (length self.now == 0) }
     {
-        self.endpoints.is_empty()
+        self.elements.is_empty()
     }
 
     /// The whole list as a slice.
-    pub fn as_slice(&self) -> &[Endpoint]
+    pub fn as_slice(&self) -> &[T]
         ensures value { result.now ≡ self.now }
-        ensures fits { length result.now ≤ PEERS }
+        ensures fits { length result.now ≤ N }
     {
-        self.endpoints.as_slice()
+        self.elements.as_slice()
     }
+}
 
-    /// The endpoint at a place, from 0.
-    pub fn get(&self, i: usize) -> Endpoint
+impl<T: Copy, const N: usize> InPlace<T, N> {
+    /// The element at a place, from 0.
+    pub fn get(&self, i: usize) -> T
         requires { i < length self.now }
         ensures { slice_get self.now i ≡ Some result }
     {
-        self.endpoints.as_slice()[i]
+        self.elements.as_slice()[i]
     }
 
-    /// Adds an endpoint at the end, where there is room.
-    pub fn push(&mut self, endpoint: Endpoint)
-        requires { length self.old < PEERS }
-        ensures { self.new ≡ self.old ++ endpoint ∷ [] }
+    /// Adds an element at the end, where there is room.
+    pub fn push(&mut self, element: T)
+        requires { length self.old < N }
+        ensures { self.new ≡ self.old ++ element ∷ [] }
     {
-        self.endpoints.push(endpoint);
+        self.elements.push(element);
     }
 }
 
-impl Default for Peers {
-    ghost is_default = { λ p. p ≡ [] };
+/// An empty list.
+impl<T: Default, const N: usize> Default for InPlace<T, N> {
+    ghost is_default = { λ list. list ≡ [] };
 
     fn default() -> Self {
-        Peers::new()
-    }
-}
-
-/// At most 74 info hashes, kept in place. Contracts see them in order.
-#[derive(Debug, Drop)]
-pub struct Hashes {
-    hashes: ArrayVec<InfoHash, HASHES>,
-}
-
-impl Model for Hashes {
-    ghost use Rattle.std.specs.Prelude.{List};
-    ghost use Rattle.ot_base.specs.declared.hash.InfoHash.{InfoHash};
-
-    ghost Value = { List InfoHash };
-
-    ghost view = { λ h. h.hashes.items };
-}
-
-impl Hashes {
-    pub fn new() -> Self
-        ensures { result ≡ [] }
-    {
-        Hashes {
-            hashes: ArrayVec::new(),
-        }
-    }
-
-    pub fn len(&self) -> usize
-        ensures value { result ≡ length self.now }
-        ensures fits { result ≤ HASHES }
-    {
-        self.hashes.len()
-    }
-
-    pub fn is_empty(&self) -> bool
-        ensures { result ≡ (length self.now == 0) }
-    {
-        self.hashes.is_empty()
-    }
-
-    /// The whole list as a slice.
-    pub fn as_slice(&self) -> &[InfoHash]
-        ensures value { result.now ≡ self.now }
-        ensures fits { length result.now ≤ HASHES }
-    {
-        self.hashes.as_slice()
-    }
-
-    /// The hash at a place, from 0.
-    pub fn get(&self, i: usize) -> InfoHash
-        requires { i < length self.now }
-        ensures { slice_get self.now i ≡ Some result }
-    {
-        self.hashes.as_slice()[i]
-    }
-
-    /// Adds a hash at the end, where there is room.
-    pub fn push(&mut self, hash: InfoHash)
-        requires { length self.old < HASHES }
-        ensures { self.new ≡ self.old ++ hash ∷ [] }
-    {
-        self.hashes.push(hash);
-    }
-}
-
-impl Default for Hashes {
-    ghost is_default = { λ h. h ≡ [] };
-
-    fn default() -> Self {
-        Hashes::new()
+        InPlace::new()
     }
 }

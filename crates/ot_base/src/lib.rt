@@ -8,6 +8,7 @@ pub mod in_place;
 pub mod laws;
 pub mod minute;
 pub mod peer;
+pub mod peers;
 pub mod refusal;
 pub mod sequence;
 #[cfg(test)]
@@ -16,8 +17,9 @@ mod tests;
 pub use address::{Addr, Endpoint, Family};
 pub use fault::TraceFault;
 pub use hash::{InfoHash, Secret, bucket_of};
-pub use in_place::{Hashes, Peers};
+pub use in_place::{CountList, Hashes, InPlace, Text};
 pub use minute::Minute;
 pub use peer::{Counts, Event, Held, Limits, Mark, Note, Row};
+pub use peers::Peers;
 pub use refusal::Refusal;
 pub use sequence::{Bytes, EndpointList, HashList, HeldList, Notes, Rows, Sequence};

@@ -5,15 +5,18 @@ use crate::{Endpoint, InfoHash, Minute};
 /// What a client announces (BEP 3).
 #[derive(Clone, Copy, Debug, PartialEq, Eq, PartialOrd, Ord, Hash)]
 pub enum Event {
-    /// One of its regular announces.
+    /// None: this is one of its regular announces.
     Nothing,
+    /// It begins with the torrent.
     Started,
+    /// It has just come to have all of the torrent.
     Completed,
+    /// It leaves the torrent.
     Stopped,
 }
 
 /// How many peers a torrent has, and how often it was downloaded (BEP 48).
-#[derive(Clone, Copy, Debug, PartialEq, Eq, PartialOrd, Ord, Hash)]
+#[derive(Clone, Copy, Debug, Default, PartialEq, Eq, PartialOrd, Ord, Hash)]
 pub struct Counts {
     /// Live seeds.
     pub complete: u32,
@@ -24,22 +27,27 @@ pub struct Counts {
 }
 
 /// A torrent with its counts.
-#[derive(Clone, Copy, Debug, PartialEq, Eq, PartialOrd, Ord, Hash)]
+#[derive(Clone, Copy, Debug, Default, PartialEq, Eq, PartialOrd, Ord, Hash)]
 pub struct Row {
     pub hash: InfoHash,
     pub counts: Counts,
 }
 
 /// What a note says of an endpoint.
-#[derive(Clone, Copy, Debug, PartialEq, Eq, PartialOrd, Ord, Hash)]
+#[derive(Clone, Copy, Debug, Default, PartialEq, Eq, PartialOrd, Ord, Hash)]
 pub enum Mark {
+    /// It lacks some of the torrent.
+    #[default]
     Leecher,
+    /// It has all of the torrent.
     Seed,
+    /// It has left the torrent.
     Stopped,
 }
 
-/// What one node tells the others: an endpoint of a torrent is a leecher, is a seed, or has stopped.
-#[derive(Clone, Copy, Debug, PartialEq, Eq, PartialOrd, Ord, Hash)]
+/// What one node tells the others: an endpoint of a torrent is a leecher, is a seed, or has
+/// stopped.
+#[derive(Clone, Copy, Debug, Default, PartialEq, Eq, PartialOrd, Ord, Hash)]
 pub struct Note {
     pub hash: InfoHash,
     pub who: Endpoint,

@@ -6,13 +6,17 @@ ghost use Rattle.ot_base.specs.Refusal.{refusal_text};
 /// Why a request is refused, as its client is told.
 #[derive(Clone, Copy, Debug, PartialEq, Eq, PartialOrd, Ord, Hash)]
 pub enum Refusal {
-    /// The connection id (BEP 15) isn't of the client's address, or is too old.
+    /// A UDP request's connection id (BEP 15) isn't of the client's address, or is too old.
     ConnectionId,
-    /// The action number is none of BEP 15's.
+    /// A UDP request's action number is none of BEP 15's.
     Action,
+    /// An HTTP request names no info hash (BEP 3).
     MissingHash,
+    /// The info hash of an HTTP request doesn't have 20 bytes, or isn't well escaped.
     BadHash,
+    /// An HTTP announce names no port.
     MissingPort,
+    /// The port of an announce is no number from 1 to 65,535.
     BadPort,
     /// The access list doesn't admit the torrent.
     Denied,

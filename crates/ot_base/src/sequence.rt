@@ -1,6 +1,7 @@
 //! Lists that grow.
 
-ghost use Rattle.std.specs.Prelude.{◌≡◌, ◌==◌, ◌<◌, [], ◌∷◌, ◌++◌, length, slice_get, Some, OnOk, OnErr};
+ghost use Rattle.std.specs.Prelude.{◌≡◌, ◌==◌, ◌<◌, [], ◌∷◌, ◌++◌, length, slice_get};
+ghost use Rattle.std.specs.Prelude.{Some, OnOk, OnErr};
 
 use crate::{Endpoint, Held, InfoHash, Note, Row};
 use std::alloc::{AllocError, Global};
@@ -30,6 +31,15 @@ impl<T> Model for Sequence<T> {
     ghost Value = { List T };
 
     ghost view = { λ s. s.elements.items };
+}
+
+/// The list of a `Vec`'s elements, which takes no memory.
+impl<T> From<Vec<T>> for Sequence<T> {
+    ghost from_gives = { λ v s. s ≡ v.items };
+
+    fn from(elements: Vec<T>) -> Self {
+        Sequence { elements }
+    }
 }
 
 impl<T> Sequence<T> {

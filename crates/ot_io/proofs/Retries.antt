@@ -1,7 +1,7 @@
 -- A read and a write after tries that were interrupted: those left the known bytes as they were.
 use Rattle.std.proofs.Common.{◌≡◌, ℕ, List, Some, None, Result, Ok, Err, ◌∙◌, ◌++◌, sym, take, subst}
 use Rattle.std.proofs.KnownBytes.{Keeps-trans}
-use Rattle.std.specs.Prelude.{Option, IsErr}
+use Rattle.std.specs.Prelude.{Option, IsErrAnd}
 use Rattle.std.specs.Io.KnownBytes.{Keeps, Appends, Consumes, ReadConsumes, WriteAppends}
 
 pub Keeps-Consumes : (a b c : Option (List ℕ)) (bs : List ℕ) → Keeps a b → Consumes b c bs → Consumes a c bs
@@ -26,10 +26,12 @@ Keeps-WriteAppends a b c (Err e) buf p q = Keeps-trans a b c p q
 
 -- what failed left the known bytes as they were
 
-pub Keeps-from_failed_read : {E : Type 0} (b c : Option (List ℕ)) (r : Result ℕ E) (buf : List ℕ) → IsErr r → ReadConsumes b c r buf → Keeps b c
-Keeps-from_failed_read b c (Ok n) buf failed q = cc
-Keeps-from_failed_read b c (Err e) buf failed q = q
+pub Keeps-from_failed_read : {E : Type 0} (P : E → Type 0) (b c : Option (List ℕ)) (r : Result ℕ E) (buf : List ℕ)
+    → IsErrAnd r P → ReadConsumes b c r buf → Keeps b c
+Keeps-from_failed_read P b c (Ok n) buf failed q = absurd failed
+Keeps-from_failed_read P b c (Err e) buf failed q = q
 
-pub Keeps-from_failed_write : {E : Type 0} (b c : Option (List ℕ)) (r : Result ℕ E) (buf : List ℕ) → IsErr r → WriteAppends b c r buf → Keeps b c
-Keeps-from_failed_write b c (Ok n) buf failed q = cc
-Keeps-from_failed_write b c (Err e) buf failed q = q
+pub Keeps-from_failed_write : {E : Type 0} (P : E → Type 0) (b c : Option (List ℕ)) (r : Result ℕ E) (buf : List ℕ)
+    → IsErrAnd r P → WriteAppends b c r buf → Keeps b c
+Keeps-from_failed_write P b c (Ok n) buf failed q = absurd failed
+Keeps-from_failed_write P b c (Err e) buf failed q = q

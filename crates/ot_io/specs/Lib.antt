@@ -1,7 +1,9 @@
 pub mod Adapters
+pub mod Connection
 pub mod Content
 pub mod Counts
 pub mod Demand
+pub mod Lengths
 pub mod Memory
 pub mod Message
 pub mod Pieces

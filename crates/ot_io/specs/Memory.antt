@@ -1,8 +1,6 @@
 -- What is seen of a source and of a sink in memory.
-use Rattle.std.specs.Prelude.{◌≡◌, ℕ, Bool, List, [], ◌∷◌, ◌+◌, length, drop, min, max, nat_lt}
+use Rattle.std.specs.Prelude.{ℕ, Bool, List}
 use Rattle.ot_io.specs.Demand.{is_demanded}
-use Rattle.ot_io.specs.declared.source.Piece.{Piece}
-use Rattle.ot_io.specs.declared.source.Piece.TheVariants.{Got, End, Failed}
 use Rattle.ot_io.specs.declared.mem_source.MemSource.{MemSource}
 use Rattle.ot_io.specs.declared.mem_sink.MemSink.{MemSink}
 
@@ -21,22 +19,9 @@ source_ends source = source.ends
 abbrev pub lengths_left : MemSource → List ℕ
 lengths_left source = source.lengths.now
 
--- the length of the next piece into so much room, where 0 counts as 1; after the last length all of it
-abbrev pub next_length : List ℕ → ℕ → ℕ
-next_length [] room = room
-next_length (n ∷ others) room = min (max n 1) room
-
--- a piece has the next length, or all that is left, and takes the length; else none is taken
-abbrev pub TakesLength : MemSource → MemSource → ℕ → Piece → Type 0
-TakesLength old new room (Got n) =
-    (n ≡ min (next_length (lengths_left old) room) (length (bytes_left old)))
-    × (lengths_left new ≡ drop 1 (lengths_left old))
-TakesLength old new room End = lengths_left new ≡ lengths_left old
-TakesLength old new room Failed = lengths_left new ≡ lengths_left old
-
 -- the numbers, from 0, of the reads of a source that are to fail
 abbrev pub failing_reads : MemSource → List ℕ
-failing_reads source = source.faults.demanded.now
+failing_reads source = source.failing.now
 
 -- how many reads of a source were made, which is the number of the next one
 abbrev pub reads_made : MemSource → ℕ
@@ -60,7 +45,7 @@ sink_faults sink = sink.faults.count
 
 -- the numbers, from 0, of the writes to a sink that are to fail
 abbrev pub failing_writes : MemSink → List ℕ
-failing_writes sink = sink.faults.demanded.now
+failing_writes sink = sink.failing.now
 
 -- how many writes to a sink were made, which is the number of the next one
 abbrev pub writes_made : MemSink → ℕ
@@ -73,11 +58,3 @@ is_write_failing sink = is_demanded (failing_writes sink) (writes_made sink)
 -- how many bytes a sink takes at once, where 0 counts as 1
 abbrev pub piece_of : MemSink → ℕ
 piece_of sink = sink.piece
-
--- how many of so many bytes a sink takes at once
-abbrev pub count_at_once : MemSink → ℕ → ℕ
-count_at_once sink count = min count (max (piece_of sink) 1)
-
--- what a sink takes at once of so many bytes passes its room
-abbrev pub passes_room : MemSink → ℕ → Bool
-passes_room sink count = nat_lt (room_of sink) (length (bytes_written sink) + count_at_once sink count)

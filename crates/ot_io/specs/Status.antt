@@ -1,7 +1,8 @@
 -- The number that a process ends with.
 use Rattle.std.specs.Prelude.{ℕ}
 use Rattle.ot_io.specs.declared.status.Status.{Status}
-use Rattle.ot_io.specs.declared.status.Status.TheVariants.{Done, Words, NoMemory, ReadFault, WriteFault, Line, TooMuch}
+use Rattle.ot_io.specs.declared.status.Status.TheVariants.{Done, Words, NoMemory, ReadFault}
+use Rattle.ot_io.specs.declared.status.Status.TheVariants.{WriteFault, Line, TooLong, TooMuch}
 
 abbrev pub code_of : Status → ℕ
 code_of Done = 0
@@ -10,4 +11,5 @@ code_of NoMemory = 3
 code_of ReadFault = 4
 code_of WriteFault = 5
 code_of (Line line fault) = 6
+code_of (TooLong line) = 7
 code_of TooMuch = 8

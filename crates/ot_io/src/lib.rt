@@ -1,10 +1,13 @@
 //! The outside of the tracker: where bytes come from and go to, how a run ends, and its settings.
 //!
-//! Each object of the outside counts its faults, and a source also its ends. An answer that blames the
-//! outside comes only where that count rose, so a caller's contract can say whose fault it was.
+//! Each object of the outside counts its faults, and a source also its ends. An answer that blames
+//! the outside comes only where that count rose, so a caller's contract can say whose fault it was.
+//! A connection is a source and a sink with one count of faults for both.
 #![tactic(auto)]
 
+pub mod conn;
 mod faults;
+pub mod mem_conn;
 pub mod mem_sink;
 pub mod mem_source;
 pub mod message;
@@ -16,6 +19,8 @@ pub mod std_streams;
 #[cfg(test)]
 mod tests;
 
+pub use conn::Conn;
+pub use mem_conn::{ConnScript, MemConn};
 pub use mem_sink::MemSink;
 pub use mem_source::MemSource;
 pub use message::report;

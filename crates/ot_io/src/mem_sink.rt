@@ -12,14 +12,16 @@ pub struct MemSink<'a> {
     written: Vec<u8>,
     room: usize,
     piece: usize,
-    faults: Faults<'a>,
+    failing: &'a [u64],
+    faults: Faults,
     ghost within: { vec_len written ≤ room },
     ghost reserved: { room ≤ vec_capacity written },
 }
 
 impl<'a> MemSink<'a> {
     ghost use Rattle.std.specs.Prelude.{◌≡◌, [], IfOk};
-    ghost use Rattle.ot_io.specs.Memory.{bytes_written, failing_writes, room_of, piece_of, sink_faults, writes_made};
+    ghost use Rattle.ot_io.specs.Memory.{bytes_written, failing_writes, room_of, piece_of};
+    ghost use Rattle.ot_io.specs.Memory.{sink_faults, writes_made};
 
     /// An empty sink with room for so many bytes.
     ///
@@ -42,7 +44,8 @@ impl<'a> MemSink<'a> {
             written: Vec::with_capacity(alloc, room)?,
             room,
             piece,
-            faults: Faults::new(failing),
+            failing,
+            faults: Faults::new(),
         })
     }
 
@@ -65,7 +68,9 @@ impl Sink for MemSink<'_> {
     ghost use Rattle.std.specs.Prelude.{◌≡◌, ◌<◌, ◌↔◌, ◌⊎◌, ◌||◌, ◌+◌, IsTrue, Some, length, min};
     ghost use Rattle.ot_io.specs.Counts.{last_count};
     ghost use Rattle.ot_io.specs.Writes.{TakesFront, WriteFailsOnlyCounted};
-    ghost use Rattle.ot_io.specs.Memory.{bytes_written, count_at_once, failing_writes, is_write_failing, passes_room, piece_of, room_of, sink_faults, writes_made};
+    ghost use Rattle.ot_io.specs.Lengths.{count_at_once, passes_room};
+    ghost use Rattle.ot_io.specs.Memory.{bytes_written, failing_writes, is_write_failing};
+    ghost use Rattle.ot_io.specs.Memory.{piece_of, room_of, sink_faults, writes_made};
 
     ghost written = { λ sink. Some (bytes_written sink) };
 
@@ -73,13 +78,19 @@ impl Sink for MemSink<'_> {
 
     fn write(&mut self, bytes: &[u8]) -> Wrote
         requires { 0 < length bytes.now }
-        ensures taken { TakesFront (Some (bytes_written self.old)) (Some (bytes_written self.new)) result bytes.now }
-        ensures failed { WriteFailsOnlyCounted (sink_faults self.old) (sink_faults self.new) result }
-        ensures count { (result ≡ Wrote.Failed) ⊎ (result ≡ Wrote.Took (count_at_once self.old (length bytes.now))) }
+        ensures taken { TakesFront (Some (bytes_written self.old)) (Some (bytes_written self.new))
+            result bytes.now }
+        ensures failed { WriteFailsOnlyCounted (sink_faults self.old) (sink_faults self.new)
+            result }
+        ensures count { (result ≡ Wrote.Failed)
+            ⊎ (result ≡ Wrote.Took (count_at_once (piece_of self.old) (length bytes.now))) }
 
         // It fails exactly where it is told to, or where it has no room.
-        ensures demanded { (result ≡ Wrote.Failed) ↔ IsTrue (is_write_failing self.old || passes_room self.old (length bytes.now)) }
-        ensures blameless { (result ≡ Wrote.Failed) ⊎ (sink_faults self.new ≡ sink_faults self.old) }
+        ensures demanded { (result ≡ Wrote.Failed) ↔ IsTrue (is_write_failing self.old
+            || passes_room (room_of self.old) (length (bytes_written self.old))
+            (count_at_once (piece_of self.old) (length bytes.now))) }
+        ensures blameless { (result ≡ Wrote.Failed)
+            ⊎ (sink_faults self.new ≡ sink_faults self.old) }
         ensures number { writes_made self.new ≡ min (writes_made self.old + 1) last_count }
         ensures failing { failing_writes self.new ≡ failing_writes self.old }
         ensures room { room_of self.new ≡ room_of self.old }
@@ -87,7 +98,7 @@ impl Sink for MemSink<'_> {
     {
         let count = bytes.len().min(self.piece.max(1));
         let left = self.room - self.written.len();
-        if self.faults.is_next_demanded() || count > left {
+        if self.faults.is_next_among(self.failing) || count > left {
             self.faults.raise();
             return Wrote::Failed;
         }

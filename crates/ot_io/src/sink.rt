@@ -32,8 +32,8 @@ pub trait Sink {
         ensures aside { aside self.new ≡ aside self.old };
 }
 
-/// Writes all of the bytes: `Took` tells their number, and after `Failed` a prefix of them was written.
-/// No bytes take no write.
+/// Writes all of the bytes: `Took` tells their number, and after `Failed` a prefix of them was
+/// written. No bytes take no write.
 pub fn send_all<K: Sink>(sink: &mut K, bytes: &[u8]) -> Wrote
     ensures sent { WritesAll (K.written sink.old) (K.written sink.new) result bytes.now }
     ensures failed { WriteFailsOnlyCounted (K.faults sink.old) (K.faults sink.new) result }

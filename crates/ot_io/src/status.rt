@@ -1,6 +1,7 @@
 //! How a run ends.
 
-ghost use Rattle.std.specs.Prelude.{◌≡◌};
+ghost use Rattle.std.specs.Prelude.{◌≡◌, ◌≤◌, length};
+ghost use Rattle.ot_io.specs.Message.{fault_word};
 ghost use Rattle.ot_io.specs.Status.{code_of};
 
 use ot_base::TraceFault;
@@ -8,8 +9,20 @@ use ot_base::TraceFault;
 /// What is wrong with a line of the input.
 #[derive(Clone, Copy, Debug, PartialEq, Eq)]
 pub enum LineFault {
-    /// It is no record of a trace.
+    /// It is no record of a trace, or there was no memory to read it.
     Trace(TraceFault),
+}
+
+impl LineFault {
+    /// The word that tells it, in ASCII, of at most 9 bytes.
+    pub fn word(self) -> &'static str
+        ensures word { result.now ≡ fault_word self }
+        ensures short { length result.now ≤ 9 }
+    {
+        match self {
+            LineFault::Trace(fault) => fault.word(),
+        }
+    }
 }
 
 /// How a run ended.
@@ -21,12 +34,14 @@ pub enum Status {
     Words { at: u32 },
     /// There was no memory.
     NoMemory,
-    /// The input failed.
+    /// A read of the input failed.
     ReadFault,
-    /// The output failed.
+    /// A write to the output failed.
     WriteFault,
     /// This line, from 1, is the first that is refused.
     Line { line: u64, fault: LineFault },
+    /// This line, from 1, is longer than a line may be.
+    TooLong { line: u64 },
     /// 2^40 bytes were read, and more came.
     TooMuch,
 }
@@ -43,6 +58,7 @@ impl Status {
             Status::ReadFault => 4,
             Status::WriteFault => 5,
             Status::Line { .. } => 6,
+            Status::TooLong { .. } => 7,
             Status::TooMuch => 8,
         }
     }

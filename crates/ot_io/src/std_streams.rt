@@ -1,6 +1,7 @@
 //! Readers and writers of std as sources and sinks.
 
-ghost use Rattle.std.specs.Prelude.{IsTrue, IsErr};
+ghost use Rattle.std.specs.Prelude.{◌≡◌, ◌↔◌, IsTrue, IsErrAnd};
+ghost use Rattle.std.specs.IoError.{error_kind};
 ghost use Rattle.std.specs.Io.{ReadsAtMost, WritesAtMost};
 ghost use Rattle.std.specs.Io.KnownBytes.{ReadConsumes, WriteAppends};
 
@@ -120,8 +121,8 @@ impl<W: Write> Sink for StdSink<W> {
     }
 }
 
-/// One read, asked again where a signal interrupts it. After 2^64 - 1 interruptions the next one is
-/// its answer.
+/// One read, asked again where a signal interrupts it. After 2^64 - 1 interruptions the next one
+/// is its answer.
 fn read_retrying<R: Read>(reader: &mut R, buf: &mut [u8]) -> io::Result<usize>
     ensures bound { ReadsAtMost result buf.new }
     ensures bytes { ReadConsumes (R.remaining reader.old) (R.remaining reader.new) result buf.new }
@@ -135,8 +136,8 @@ fn read_retrying<R: Read>(reader: &mut R, buf: &mut [u8]) -> io::Result<usize>
     reader.read(buf)
 }
 
-/// One write, asked again where a signal interrupts it. After 2^64 - 1 interruptions the next one is
-/// its answer.
+/// One write, asked again where a signal interrupts it. After 2^64 - 1 interruptions the next one
+/// is its answer.
 fn write_retrying<W: Write>(writer: &mut W, bytes: &[u8]) -> io::Result<usize>
     ensures bound { WritesAtMost result bytes.now }
     ensures bytes { WriteAppends (W.contents writer.old) (W.contents writer.new) result bytes.now }
@@ -150,9 +151,11 @@ fn write_retrying<W: Write>(writer: &mut W, bytes: &[u8]) -> io::Result<usize>
     writer.write(bytes)
 }
 
-/// Whether a signal came before any byte, so that the same call is to be made again.
+/// Whether a signal came before any byte, so that the same call is to be made again: of no other
+/// error, since that could come for ever.
 fn is_interrupted(answer: &io::Result<usize>) -> bool
-    ensures { IsTrue result → IsErr answer.now }
+    ensures { IsTrue result
+        ↔ IsErrAnd answer.now (λ error. error_kind error ≡ ErrorKind.Interrupted) }
 {
     match answer {
         Ok(_) => false,

@@ -10,13 +10,13 @@ use Rattle.ot_base.proofs.SameLemmas.{same_endpoint_laws, same_endpoint_decides,
 use Rattle.ot_base.specs.declared.hash.InfoHash.{InfoHash}
 use Rattle.ot_base.specs.declared.address.Endpoint.{Endpoint}
 use Rattle.ot_base.specs.declared.peer.Held.{Held}
-use Rattle.tracker_model.specs.Calls.{silent, said, subject, is_about, is_joining}
-use Rattle.tracker_model.specs.Counted.{subjects, named, endpoint_in, how_many, counts_of, is_leecher, swarm_size, known_hashes, known_count}
-use Rattle.tracker_model.specs.Entries.{last_word, word_of, heard, time_of, is_effective}
+use Rattle.tracker_model.specs.Calls.{silent, call_word, subject, is_about, is_joining}
+use Rattle.tracker_model.specs.Counted.{subjects, named_endpoints, endpoint_in, how_many, counts_of, is_leecher, swarm_size, known_hashes, known_count}
+use Rattle.tracker_model.specs.Entries.{last_word, word_of, held_after, time_of, is_effective}
 use Rattle.tracker_model.specs.Live.{if_live, live}
 use Rattle.tracker_model.specs.Shape.{Torrent, peers_of, torrent_of, Shape, stored_peers, held_of, count_in, counts_in, downloads_in, known_in, is_known_in, known_torrents}
 use Rattle.tracker_model.specs.Known.{Standing, known, is_known, is_recent, if_known, is_seed, touches, touch_of, downloaded_of}
-use Rattle.tracker_model.specs.Stands.{IsTidy, Keeps, Stands}
+use Rattle.tracker_model.specs.Stands.{IsTidy, Keeps, StandsFor}
 use Rattle.tracker_model.specs.declared.entry.Entry.{Entry}
 use Rattle.tracker_model.specs.declared.call.Call.{Call}
 use Rattle.tracker_model.specs.declared.call.Call.TheVariants.{Announce, Stop, Scrape, Scan, Clean, Sync, Drain}
@@ -51,12 +51,12 @@ or_false true b e = absurd (let p : ⊥ = cc in p)
 or_false false b e = (refl, e)
 
 -- nothing stands of an endpoint that was never named
-pub unnamed : (past : List Entry) (h : InfoHash) (e : Endpoint) → is_member same_endpoint (named past h) e ≡ false → last_word past h e ≡ None
+pub unnamed : (past : List Entry) (h : InfoHash) (e : Endpoint) → is_member same_endpoint (named_endpoints past h) e ≡ false → last_word past h e ≡ None
 unnamed [] h e never = refl
 unnamed (x ∷ past) h e never =
-    let parts = or_false (is_about x.call h e) (is_member same_endpoint (named past h) e) (sym (named_more h e (subject x.call) (subjects past)) ∙ never) in
-    let unsaid : word_of x h e ≡ silent = ap (λ b. if is_effective x && b then said x.call else silent) parts.0 ∙ ap (λ b. if b then said x.call else silent) (and_false (is_effective x)) in
-    ap (λ w. heard w e (time_of (x ∷ past)) (last_word past h e)) unsaid ∙ unnamed past h e parts.1
+    let parts = or_false (is_about x.call h e) (is_member same_endpoint (named_endpoints past h) e) (sym (named_more h e (subject x.call) (subjects past)) ∙ never) in
+    let unsaid : word_of x h e ≡ silent = ap (λ b. if is_effective x && b then call_word x.call else silent) parts.0 ∙ ap (λ b. if b then call_word x.call else silent) (and_false (is_effective x)) in
+    ap (λ w. held_after w e (time_of (x ∷ past)) (last_word past h e)) unsaid ∙ unnamed past h e parts.1
 
 -- a test that nothing passes, of what is live of an endpoint, by the stored one
 stored_test : (minute : ℕ) (test : Option Held → Bool) → test None ≡ false → (o : Option Held) → option_map_or (λ held. test (if_live minute (Some held))) o false ≡ test (if_live minute o)
@@ -71,16 +71,16 @@ how_many-stored past minute stored h test nothing kept =
     let passes = λ (held : Held). test (if_live minute (Some held)) in
     let at = λ (e : Endpoint). test (live past h e minute) in
     let apart = stored_apart stored h kept.tidy.each in
-    let members : (q : Endpoint) → is_member same_endpoint (map who (filter passes peers)) q ≡ is_member same_endpoint (filter at (named past h)) q = λ q.
-    let nobody : is_member same_endpoint (named past h) q ≡ false → at q ≡ false = λ never. ap (λ o. test (if_live minute o)) (unnamed past h q never) ∙ nothing in
-    let both : at q ≡ (is_member same_endpoint (named past h) q && at q) = by_test (is_member same_endpoint (named past h) q) (at q ≡ (is_member same_endpoint (named past h) q && at q))
+    let members : (q : Endpoint) → is_member same_endpoint (map who (filter passes peers)) q ≡ is_member same_endpoint (filter at (named_endpoints past h)) q = λ q.
+    let nobody : is_member same_endpoint (named_endpoints past h) q ≡ false → at q ≡ false = λ never. ap (λ o. test (if_live minute o)) (unnamed past h q never) ∙ nothing in
+    let both : at q ≡ (is_member same_endpoint (named_endpoints past h) q && at q) = by_test (is_member same_endpoint (named_endpoints past h) q) (at q ≡ (is_member same_endpoint (named_endpoints past h) q && at q))
     (λ among. sym (ap (λ b. b && at q) among)) (λ never. nobody never ∙ sym (ap (λ b. b && at q) never)) in
     is_member-passing same_endpoint same_endpoint_decides who passes q peers apart
     ∙ stored_test minute test nothing (held_of peers q)
     ∙ ap (λ o. test o) (kept.peers h q)
     ∙ both
-    ∙ sym (is_member-filter same_endpoint_laws at q (alike_from_same same_endpoint_decides at q) (named past h)) in
-    sym (length-from_keys same_endpoint_laws (map who (filter passes peers)) (filter at (named past h)) (keys_apart same_endpoint same_endpoint_decides who passes peers apart) members)
+    ∙ sym (is_member-filter same_endpoint_laws at q (alike_from_same same_endpoint_decides at q) (named_endpoints past h)) in
+    sym (length-from_keys same_endpoint_laws (map who (filter passes peers)) (filter at (named_endpoints past h)) (keys_apart same_endpoint same_endpoint_decides who passes peers apart) members)
     ∙ length-map (filter passes peers) who
 
 -- the counts of what is stored are those counted from scratch
@@ -93,7 +93,7 @@ counts_of-stored past stored h kept =
     ∙ ap (λ n. told (count_in is_seed now stored h) n (count_in is_leecher now stored h)) (downloaded_of-known past h ∙ ap downloads_in (sym (kept.torrents h)))
 
 -- two bodies that stand for the same history count and know the same
-pub same_counts : (history : List Entry) (a b : Shape) → Stands history a → Stands history b → (h : InfoHash) → counts_in a.time a.torrents h ≡ counts_in b.time b.torrents h
+pub same_counts : (history : List Entry) (a b : Shape) → StandsFor history a → StandsFor history b → (h : InfoHash) → counts_in a.time a.torrents h ≡ counts_in b.time b.torrents h
 same_counts history a b stands also h =
     let past = reverse history in
     let now = time_of past in
@@ -103,7 +103,7 @@ same_counts history a b stands also h =
     ∙ counts_of-stored past b.torrents h (subst (KeepsAt b.torrents) also.holds.on_time also.holds.kept)
     ∙ ap (λ t. counts_in t b.torrents h) (sym also.holds.on_time)
 
-pub same_known : (history : List Entry) (a b : Shape) → Stands history a → Stands history b → (h : InfoHash) → known_in a.time a.torrents h ≡ known_in b.time b.torrents h
+pub same_known : (history : List Entry) (a b : Shape) → StandsFor history a → StandsFor history b → (h : InfoHash) → known_in a.time a.torrents h ≡ known_in b.time b.torrents h
 same_known history a b stands also h =
     stands.holds.kept.torrents h ∙ ap (λ t. known (reverse history) h t) (stands.holds.on_time ∙ sym also.holds.on_time) ∙ sym (also.holds.kept.torrents h)
 
@@ -161,7 +161,7 @@ module _ (at : Endpoint → Option Held) where
 -- live seeds and other live peers are all live peers
 pub seeds_and_leechers : (past : List Entry) (h : InfoHash) (minute : ℕ) → how_many is_seed past h minute + how_many is_leecher past h minute ≡ swarm_size past h minute
 unfolding passing
-seeds_and_leechers past h minute = parts_of (λ e. live past h e minute) (named past h)
+seeds_and_leechers past h minute = parts_of (λ e. live past h e minute) (named_endpoints past h)
 
 -- ---- known torrents
 

@@ -5,7 +5,7 @@ use Rattle.ot_base.specs.Same.{same_hash, same_endpoint}
 use Rattle.ot_base.proofs.SameLemmas.{same_hash_decides}
 use Rattle.ot_base.specs.declared.hash.InfoHash.{InfoHash}
 use Rattle.ot_base.specs.declared.address.Endpoint.{Endpoint}
-use Rattle.tracker_model.specs.Calls.{silent, subject, joins, said, is_about, is_joining}
+use Rattle.tracker_model.specs.Calls.{silent, subject, joins, call_word, is_about, is_joining}
 use Rattle.tracker_model.specs.Counted.{same_subject}
 use Rattle.tracker_model.specs.Entries.{time_of, is_effective, word_of}
 use Rattle.tracker_model.specs.Known.{is_seed, touches, is_download, counts_download}
@@ -19,16 +19,16 @@ use Rattle.tracker_model.proofs.StepLemmas.{IsQuiet, Says, Touches, same_subject
 -- an entry that took no effect is quiet
 pub quiet_refused : (x : Entry) (past : List Entry) → is_effective x ≡ false → IsQuiet x past
 quiet_refused x past refused = record {
-  unsaid = λ h e. ap (λ b. if b && is_about x.call h e then said x.call else silent) refused;
+  unsaid = λ h e. ap (λ b. if b && is_about x.call h e then call_word x.call else silent) refused;
   untouched = λ h. ap (λ b. b && is_joining x.call h) refused;
   uncounted = λ h. ap (λ b. b && is_download x.call h past (time_of (x ∷ past))) refused;
 }
 
 -- what the call of an effective entry says, touches and counts, the entry does
-word_of-call : (x : Entry) (call : Call) → is_effective x ≡ true → x.call ≡ call → (h : InfoHash) (e : Endpoint) → word_of x h e ≡ (if is_about call h e then said call else silent)
+word_of-call : (x : Entry) (call : Call) → is_effective x ≡ true → x.call ≡ call → (h : InfoHash) (e : Endpoint) → word_of x h e ≡ (if is_about call h e then call_word call else silent)
 word_of-call x call done is h e =
-    ap (λ b. if b && is_about x.call h e then said x.call else silent) done
-    ∙ ap (λ c. if is_about c h e then said c else silent) is
+    ap (λ b. if b && is_about x.call h e then call_word x.call else silent) done
+    ∙ ap (λ c. if is_about c h e then call_word c else silent) is
 
 touches-call : (x : Entry) (call : Call) → is_effective x ≡ true → x.call ≡ call → (h : InfoHash) → touches x h ≡ is_joining call h
 touches-call x call done is h = ap (λ b. b && is_joining x.call h) done ∙ ap (λ c. is_joining c h) is
@@ -50,20 +50,20 @@ pub quiet_asking : (x : Entry) (past : List Entry) (call : Call) → is_effectiv
     ((h : InfoHash) (e : Endpoint) → is_about call h e ≡ false) → ((h : InfoHash) → is_joining call h ≡ false) →
     ((h : InfoHash) → is_download call h past (time_of (x ∷ past)) ≡ false) → IsQuiet x past
 quiet_asking x past call done is about joining download = record {
-  unsaid = λ h e. word_of-call x call done is h e ∙ ap (λ b. if b then said call else silent) (about h e);
+  unsaid = λ h e. word_of-call x call done is h e ∙ ap (λ b. if b then call_word call else silent) (about h e);
   untouched = leaves_untouched x call done is joining;
   uncounted = leaves_uncounted x past call done is download;
 }
 
 -- a call that reports on an endpoint says its word of that one alone
-pub says_word : (x : Entry) (call : Call) (h : InfoHash) (e : Endpoint) → is_effective x ≡ true → x.call ≡ call → subject call ≡ Some (h, e) → Says x h e (said call)
+pub says_word : (x : Entry) (call : Call) (h : InfoHash) (e : Endpoint) → is_effective x ≡ true → x.call ≡ call → subject call ≡ Some (h, e) → Says x h e (call_word call)
 says_word x call h e done is about =
     let at = λ (g : InfoHash) (d : Endpoint).
-    let p : word_of x g d ≡ (if same_subject (h, e) (g, d) then said call else silent) =
-    word_of-call x call done is g d ∙ ap (λ s. if option_map_or (λ s. same_hash s.0 g && same_endpoint s.1 d) s false then said call else silent) about in p in
+    let p : word_of x g d ≡ (if same_subject (h, e) (g, d) then call_word call else silent) =
+    word_of-call x call done is g d ∙ ap (λ s. if option_map_or (λ s. same_hash s.0 g && same_endpoint s.1 d) s false then call_word call else silent) about in p in
     record {
-      itself = at h e ∙ ap (λ b. if b then said call else silent) ((same_subject_decides (h, e) (h, e)).1 refl);
-      others = λ g d apart. at g d ∙ ap (λ b. if b then said call else silent) apart;
+      itself = at h e ∙ ap (λ b. if b then call_word call else silent) ((same_subject_decides (h, e) (h, e)).1 refl);
+      others = λ g d apart. at g d ∙ ap (λ b. if b then call_word call else silent) apart;
     }
 
 -- a call that reports that an endpoint takes part touches that torrent alone, and counts a download of no other

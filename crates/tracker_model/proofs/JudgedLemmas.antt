@@ -10,14 +10,14 @@ use Rattle.ot_base.specs.declared.peer.Row.{Row}
 use Rattle.tracker_model.specs.Calls.{joins, IsWellFormed}
 use Rattle.tracker_model.specs.Counted.{counts_of, swarm_size, rows_of, may_be_told}
 use Rattle.tracker_model.specs.Entries.{time_of}
-use Rattle.tracker_model.specs.Judged.{has_live, has_known, meets_full_swarm, meets_full_bucket, could_want, IsDrawn, AreRows, IsRowsAnd, Tells, IsRightFor}
+use Rattle.tracker_model.specs.Judged.{has_live, has_known, meets_full_swarm, meets_full_bucket, could_want, IsDrawn, AreRows, IsRowsAnd, AnswersFor, IsRightFor}
 use Rattle.tracker_model.specs.Known.{is_known, downloaded_of, touch_of}
 use Rattle.tracker_model.specs.Live.{is_live}
 use Rattle.tracker_model.specs.Outbox.{outbox_notes, outbox_dropped}
-use Rattle.tracker_model.specs.Right.{is_swarm_full, is_bucket_full, may_want, IsFair, IsToldAnd, is_no_memory, Answers, IsRight}
+use Rattle.tracker_model.specs.Right.{is_swarm_full, is_bucket_full, may_want, IsFair, IsToldAnd, is_no_memory, Answers, IsRightAfterPast}
 use Rattle.tracker_model.specs.Settings.{Settings}
 use Rattle.tracker_model.specs.Shape.{Shape, Torrent, count_in, counts_in, live_peers}
-use Rattle.tracker_model.specs.Stands.{Keeps, Holds, Stands}
+use Rattle.tracker_model.specs.Stands.{Keeps, Holds, StandsFor}
 use Rattle.tracker_model.specs.Steps.{StepsTo}
 use Rattle.tracker_model.specs.declared.answer.Answer.{Answer}
 use Rattle.tracker_model.specs.declared.answer.Answer.TheVariants.{Told, Stats, Rows, Cleaned, Applied, Drained, SwarmFull, BucketFull, NoMemory}
@@ -101,7 +101,7 @@ module _ (now : List Entry) (stored : List Torrent) (kept : Keeps now (time_of n
 -- what a bucket tells is what the call asks, where time, peers and torrents after it, and the outbox before it,
 -- are those of the history
 tells_right : (g : Settings) (past now : List Entry) (old new : Shape) (call : Call) (a : Answer) → new.time ≡ time_of now → Keeps now (time_of now) new.torrents →
-    old.notes ≡ outbox_notes g past → old.dropped ≡ outbox_dropped g past → Tells old new call a → Answers g past now call a
+    old.notes ≡ outbox_notes g past → old.dropped ≡ outbox_dropped g past → AnswersFor old new call a → Answers g past now call a
 tells_right g past now old new (Announce h who seed completed want) a on_time kept noted lost tells =
     let At : ℕ → Type 0 = λ t. IsToldAnd a (λ counts peers. (counts ≡ counts_in t new.torrents h) × IsDrawn t new.torrents h who want peers) in
     told_right now new.torrents kept h who want a (subst At on_time tells)
@@ -132,7 +132,7 @@ chosen : (a b : Bool) (P Q R : Type 0) → a ≡ b → (Q → R) → MatchBool a
 chosen a b P Q R same follows fact = let M : Bool → Type 0 = λ c. MatchBool c P R in subst M same (weaker a P Q R follows fact)
 
 -- right by what is stored is right by the entries
-pub judged_right : (x : Entry) (past : List Entry) (old new : Shape) → Holds past old → StepsTo x old new → IsRightFor old new x.call x.answer → IsRight old.settings past x
+pub judged_right : (x : Entry) (past : List Entry) (old new : Shape) → Holds past old → StepsTo x old new → IsRightFor old new x.call x.answer → IsRightAfterPast old.settings past x
 judged_right x past old new holds step right =
     let g = old.settings in
     let now = time_of (x ∷ past) in
@@ -151,5 +151,5 @@ judged_right x past old new holds step right =
 
 -- a bucket that stands for a history, answers right by what it has stored and makes the entry's step stands for
 -- the longer history
-pub stands_judged : (history : List Entry) (x : Entry) (old new : Shape) → Stands history old → IsWellFormed x.call → IsRightFor old new x.call x.answer → StepsTo x old new → Stands (history ++ x ∷ []) new
+pub stands_judged : (history : List Entry) (x : Entry) (old new : Shape) → StandsFor history old → IsWellFormed x.call → IsRightFor old new x.call x.answer → StepsTo x old new → StandsFor (history ++ x ∷ []) new
 stands_judged history x old new stands formed right step = stands_step history x old new stands formed (judged_right x (reverse history) old new stands.holds step right) step

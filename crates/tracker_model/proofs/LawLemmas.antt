@@ -8,14 +8,14 @@ use Rattle.ot_base.specs.declared.address.Endpoint.{Endpoint}
 use Rattle.ot_base.specs.declared.peer.Held.{Held}
 use Rattle.ot_base.specs.Same.{same_hash, same_endpoint}
 use Rattle.ot_base.specs.declared.peer.Mark.TheVariants.{Leecher, Seed, Stopped}
-use Rattle.tracker_model.specs.Calls.{Word, silent, gone, here, said, is_about, is_joining}
+use Rattle.tracker_model.specs.Calls.{Word, silent, gone, here, call_word, is_about, is_joining}
 use Rattle.std.specs.List.{filter}
 use Rattle.std.specs.Set.{distinct_count}
 use Rattle.ot_base.specs.declared.peer.Counts.{Counts}
-use Rattle.tracker_model.specs.Counted.{named, how_many, counts_of, is_leecher}
-use Rattle.tracker_model.specs.Entries.{time_of, is_effective, word_of, last_word, heard}
+use Rattle.tracker_model.specs.Counted.{named_endpoints, how_many, counts_of, is_leecher}
+use Rattle.tracker_model.specs.Entries.{time_of, is_effective, word_of, last_word, held_after}
 use Rattle.tracker_model.specs.Known.{is_known, is_recent, touch_of, touches, downloads, downloaded_of, counts_download, is_seed, known}
-use Rattle.tracker_model.specs.Legal.{IsLegal, Legal}
+use Rattle.tracker_model.specs.Legal.{IsLegalPast, IsLegalHistory}
 use Rattle.tracker_model.specs.Live.{if_live, live}
 use Rattle.tracker_model.specs.Outbox.{is_drain, note_of, outbox_notes, outbox_dropped}
 use Rattle.tracker_model.specs.Reports.{IsReported}
@@ -57,7 +57,7 @@ spoken true false word seed e = absurd (let p : ⊥ = cc in p)
 spoken false about word seed e = absurd (let p : ⊥ = cc in p)
 
 -- after one more entry
-reported_at : (x : Entry) (past : List Entry) (h : InfoHash) (e : Endpoint) (held : Held) (word : Word) → word_of x h e ≡ word → heard word e (time_of (x ∷ past)) (last_word past h e) ≡ Some held → (last_word past h e ≡ Some held → IsReported past h e held) → IsReported (x ∷ past) h e held
+reported_at : (x : Entry) (past : List Entry) (h : InfoHash) (e : Endpoint) (held : Held) (word : Word) → word_of x h e ≡ word → held_after word e (time_of (x ∷ past)) (last_word past h e) ≡ Some held → (last_word past h e ≡ Some held → IsReported past h e held) → IsReported (x ∷ past) h e held
 reported_at x past h e held silent said_now stands before = let old = before stands in record {
   newer = x ∷ old.newer;
   report = old.report;
@@ -71,7 +71,7 @@ reported_at x past h e held silent said_now stands before = let old = before sta
 }
 reported_at x past h e held gone said_now stands before = absurd (let p : ⊥ = cc in p)
 reported_at x past h e held (here seed) said_now stands before =
-    let parts = spoken (is_effective x) (is_about x.call h e) (said x.call) seed said_now in
+    let parts = spoken (is_effective x) (is_about x.call h e) (call_word x.call) seed said_now in
     let flag : seed ≡ held.seed = ap (λ o. option_map_or (λ (k : Held). k.seed) o false) stands in
     let stamp : time_of (x ∷ past) ≡ held.stamp.0 = ap (λ o. option_map_or (λ (k : Held). k.stamp.0) o 0) stands in
     record {
@@ -127,7 +127,7 @@ counts_anew x past h unknown =
     ∙ elim (counts_download x h past) as (λ b. 0 + (if b then 1 else 0) ≡ (if b then 1 else 0)) [ true ↦ refl | false ↦ refl ]
 
 -- a call that says that an endpoint takes part in a torrent touches it
-joining_said : (call : Call) (h : InfoHash) (e : Endpoint) (seed : Bool) → is_about call h e ≡ true → said call ≡ here seed → is_joining call h ≡ true
+joining_said : (call : Call) (h : InfoHash) (e : Endpoint) (seed : Bool) → is_about call h e ≡ true → call_word call ≡ here seed → is_joining call h ≡ true
 joining_said (Announce hash who flag completed want) h e seed about says = both_first (same_hash hash h) (same_endpoint who e) about
 joining_said (Stop hash who) h e seed about says = absurd (let p : ⊥ = cc in p)
 joining_said (Scrape hash) h e seed about says = absurd (let p : ⊥ = cc in p)
@@ -145,7 +145,7 @@ record IsTouchedSince (past : List Entry) (h : InfoHash) (stamp : ℕ) : Type 0 
   not_before : stamp ≤ touch
   not_after : touch ≤ time_of past
 
-touched_at : (x : Entry) (past : List Entry) (h : InfoHash) (e : Endpoint) (held : Held) (word : Word) → word_of x h e ≡ word → heard word e (time_of (x ∷ past)) (last_word past h e) ≡ Some held → (last_word past h e ≡ Some held → IsTouchedSince past h held.stamp.0) → IsTouchedSince (x ∷ past) h held.stamp.0
+touched_at : (x : Entry) (past : List Entry) (h : InfoHash) (e : Endpoint) (held : Held) (word : Word) → word_of x h e ≡ word → held_after word e (time_of (x ∷ past)) (last_word past h e) ≡ Some held → (last_word past h e ≡ Some held → IsTouchedSince past h held.stamp.0) → IsTouchedSince (x ∷ past) h held.stamp.0
 touched_at x past h e held silent said_now stands before =
     let old = before stands in
     by_test (touches x h) (IsTouchedSince (x ∷ past) h held.stamp.0)
@@ -153,7 +153,7 @@ touched_at x past h e held silent said_now stands before =
     (λ untouched. record { touch = old.touch; last = ap (λ b. if b then Some (time_of (x ∷ past)) else touch_of past h) untouched ∙ old.last; not_before = old.not_before; not_after = omega (arith, old.not_after) })
 touched_at x past h e held gone said_now stands before = absurd (let p : ⊥ = cc in p)
 touched_at x past h e held (here seed) said_now stands before =
-    let parts = spoken (is_effective x) (is_about x.call h e) (said x.call) seed said_now in
+    let parts = spoken (is_effective x) (is_about x.call h e) (call_word x.call) seed said_now in
     let stamp : time_of (x ∷ past) ≡ held.stamp.0 = ap (λ o. option_map_or (λ (k : Held). k.stamp.0) o 0) stands in
     let again : touches x h ≡ true = ap (λ b. b && is_joining x.call h) parts.0 ∙ joining_said x.call h e seed parts.1 parts.2 in
     record { touch = time_of (x ∷ past); last = ap (λ b. if b then Some (time_of (x ∷ past)) else touch_of past h) again; not_before = omega arith; not_after = omega arith }
@@ -181,12 +181,12 @@ seed_adds_nothing x past h e seed completed want held done is stands seeds =
     ap (λ b. (if b then downloads past h else 0) + (if counts_download x h past then 1 else 0)) (live_is_known past h e now held stands)
     ∙ ap (λ b. downloads past h + (if b then 1 else 0)) none ∙ add-zero (downloads past h)
 
-legal_tail : (g : Settings) (newer older : List Entry) → IsLegal g (newer ++ older) → IsLegal g older
+legal_tail : (g : Settings) (newer older : List Entry) → IsLegalPast g (newer ++ older) → IsLegalPast g older
 legal_tail g [] older legal = legal
 legal_tail g (x ∷ newer) older legal = legal_tail g newer older legal.2
 
-pub legal_prefix : (g : Settings) (history more : List Entry) → Legal g (history ++ more) → Legal g history
-legal_prefix g history more legal = let P : List Entry → Type 0 = λ past. IsLegal g past in legal_tail g (reverse more) (reverse history) (subst P (reverse-append history more) legal)
+pub legal_prefix : (g : Settings) (history more : List Entry) → IsLegalHistory g (history ++ more) → IsLegalHistory g history
+legal_prefix g history more legal = let P : List Entry → Type 0 = λ past. IsLegalPast g past in legal_tail g (reverse more) (reverse history) (subst P (reverse-append history more) legal)
 
 -- nothing is live of a torrent that isn't known
 nobody_live : (past : List Entry) (h : InfoHash) (minute : ℕ) → is_known past h minute ≡ false → (e : Endpoint) (o : Option Held) → live past h e minute ≡ o → o ≡ None
@@ -199,7 +199,7 @@ none_pass p none (e ∷ es) = ap (λ b. cond b (e ∷ filter p es) (filter p es)
 
 none_of_unknown : (past : List Entry) (h : InfoHash) (minute : ℕ) (test : Option Held → Bool) → test None ≡ false → is_known past h minute ≡ false → how_many test past h minute ≡ 0
 none_of_unknown past h minute test nothing unknown =
-    ap (λ es. distinct_count same_endpoint es) (none_pass (λ e. test (live past h e minute)) (λ e. ap test (nobody_live past h minute unknown e (live past h e minute) refl) ∙ nothing) (named past h))
+    ap (λ es. distinct_count same_endpoint es) (none_pass (λ e. test (live past h e minute)) (λ e. ap test (nobody_live past h minute unknown e (live past h e minute) refl) ∙ nothing) (named_endpoints past h))
 
 pub unknown_counts : (past : List Entry) (h : InfoHash) → is_known past h (time_of past) ≡ false → counts_of past h ≡ record { complete = 0; downloaded = 0; incomplete = 0 }
 unknown_counts past h unknown =

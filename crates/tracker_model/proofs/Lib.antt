@@ -11,3 +11,5 @@ pub mod LawLemmas
 pub mod PairLemmas
 pub mod RowLemmas
 pub mod JudgedLemmas
+pub mod GrowsLemmas
+pub mod KindLemmas

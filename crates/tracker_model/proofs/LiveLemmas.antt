@@ -5,7 +5,7 @@ use Rattle.ot_base.specs.declared.hash.InfoHash.{InfoHash}
 use Rattle.ot_base.specs.declared.address.Endpoint.{Endpoint}
 use Rattle.ot_base.specs.declared.peer.Held.{Held}
 use Rattle.tracker_model.specs.Calls.{silent, gone, here}
-use Rattle.tracker_model.specs.Entries.{time_of, word_of, last_word, heard}
+use Rattle.tracker_model.specs.Entries.{time_of, word_of, last_word, held_after}
 use Rattle.tracker_model.specs.Live.{if_live, live}
 use Rattle.tracker_model.specs.declared.entry.Entry.{Entry}
 use Rattle.tracker_model.specs.declared.limits.TheConstants.{PEER_MINUTES}
@@ -20,11 +20,11 @@ live_agrees_later now later le a b e = sym (if_live-later now later le a) ∙ ap
 
 -- an entry that says nothing of an endpoint leaves what is live of it
 pub live-kept : (x : Entry) (past : List Entry) (h : InfoHash) (e : Endpoint) (minute : ℕ) → word_of x h e ≡ silent → live (x ∷ past) h e minute ≡ live past h e minute
-live-kept x past h e minute unsaid = ap (λ w. if_live minute (heard w e (time_of (x ∷ past)) (last_word past h e))) unsaid
+live-kept x past h e minute unsaid = ap (λ w. if_live minute (held_after w e (time_of (x ∷ past)) (last_word past h e))) unsaid
 
 -- an endpoint that stops isn't live
 pub live-gone : (x : Entry) (past : List Entry) (h : InfoHash) (e : Endpoint) (minute : ℕ) → word_of x h e ≡ gone → live (x ∷ past) h e minute ≡ None
-live-gone x past h e minute stopped = ap (λ w. if_live minute (heard w e (time_of (x ∷ past)) (last_word past h e))) stopped
+live-gone x past h e minute stopped = ap (λ w. if_live minute (held_after w e (time_of (x ∷ past)) (last_word past h e))) stopped
 
 pub zero_live : (now : ℕ) → nat_lt (now - now) PEER_MINUTES ≡ true
 zero_live now = grind (arith, nat_tests)
@@ -32,8 +32,8 @@ zero_live now = grind (arith, nat_tests)
 -- an endpoint that takes part is live just then
 pub live-here : (x : Entry) (past : List Entry) (h : InfoHash) (e : Endpoint) (seed : Bool) → word_of x h e ≡ here seed →
     live (x ∷ past) h e (time_of (x ∷ past)) ≡ Some (record { who = e; seed = seed; stamp = record { 0 = time_of (x ∷ past) } })
-live-here x past h e seed said =
+live-here x past h e seed says =
     let now = time_of (x ∷ past) in
     let held : Held = record { who = e; seed = seed; stamp = record { 0 = now } } in
-    ap (λ w. if_live now (heard w e now (last_word past h e))) said
+    ap (λ w. if_live now (held_after w e now (last_word past h e))) says
     ∙ ap (λ b. if b then Some held else None) (zero_live now)

@@ -13,9 +13,9 @@ use Rattle.ot_base.proofs.SameLemmas.{same_endpoint_decides, same_hash_decides, 
 use Rattle.ot_base.specs.declared.hash.InfoHash.{InfoHash}
 use Rattle.ot_base.specs.declared.address.Endpoint.{Endpoint}
 use Rattle.ot_base.specs.declared.peer.Held.{Held}
-use Rattle.tracker_model.specs.Calls.{silent, said, subject, is_about}
+use Rattle.tracker_model.specs.Calls.{silent, call_word, subject, is_about}
 use Rattle.tracker_model.specs.Counted.{subjects, same_subject, live_count}
-use Rattle.tracker_model.specs.Entries.{last_word, word_of, heard, time_of, is_effective}
+use Rattle.tracker_model.specs.Entries.{last_word, word_of, held_after, time_of, is_effective}
 use Rattle.tracker_model.specs.Live.{if_live, is_live}
 use Rattle.tracker_model.specs.Shape.{Torrent, peers_of, torrent_of, held_of, live_in, is_live_in, live_peers}
 use Rattle.tracker_model.specs.Stands.{IsTidy, Keeps}
@@ -38,8 +38,8 @@ unnamed_pair : (past : List Entry) (h : InfoHash) (e : Endpoint) → is_member s
 unnamed_pair [] h e never = refl
 unnamed_pair (x ∷ past) h e never =
     let parts = or_false (is_about x.call h e) (is_member same_subject (subjects past) (h, e)) (sym (subjects_more (h, e) (subject x.call) (subjects past)) ∙ never) in
-    let unsaid : word_of x h e ≡ silent = ap (λ b. if is_effective x && b then said x.call else silent) parts.0 ∙ ap (λ b. if b then said x.call else silent) (and_false (is_effective x)) in
-    ap (λ w. heard w e (time_of (x ∷ past)) (last_word past h e)) unsaid ∙ unnamed_pair past h e parts.1
+    let unsaid : word_of x h e ≡ silent = ap (λ b. if is_effective x && b then call_word x.call else silent) parts.0 ∙ ap (λ b. if b then call_word x.call else silent) (and_false (is_effective x)) in
+    ap (λ w. held_after w e (time_of (x ∷ past)) (last_word past h e)) unsaid ∙ unnamed_pair past h e parts.1
 
 module _ (minute : ℕ) where
   -- the pairs of a torrent and its live peers

@@ -8,12 +8,12 @@ use Rattle.ot_base.specs.declared.peer.Mark.TheVariants.{Leecher, Seed, Stopped}
 use Rattle.ot_base.specs.declared.peer.Note.{Note}
 use Rattle.tracker_model.specs.Calls.{IsWellFormed}
 use Rattle.tracker_model.specs.Entries.{time_of, is_effective}
-use Rattle.tracker_model.specs.Legal.{IsLegal, Legal, Right}
+use Rattle.tracker_model.specs.Legal.{IsLegalPast, IsLegalHistory, IsRightAfter}
 use Rattle.tracker_model.specs.Outbox.{is_drain, note_made, outbox_notes, outbox_dropped}
 use Rattle.tracker_model.specs.Settings.{Settings}
 use Rattle.tracker_model.specs.Known.{is_seed}
 use Rattle.tracker_model.specs.Shape.{Shape, Torrent, live_in, known_in, downloads_in}
-use Rattle.tracker_model.specs.Stands.{Keeps, Holds, Stands}
+use Rattle.tracker_model.specs.Stands.{Keeps, Holds, StandsFor}
 use Rattle.tracker_model.specs.Steps.{SameAt, Puts, Takes, TorrentStep, StepsTo, one_more, notes_with, dropped_with}
 use Rattle.tracker_model.specs.declared.call.Call.{Call}
 use Rattle.tracker_model.specs.declared.call.Call.TheVariants.{Announce, Stop, Scrape, Scan, Clean, Sync, Drain}
@@ -91,21 +91,21 @@ holds_step x past old new holds step =
 pub newest_first : (history : List Entry) (x : Entry) → reverse (history ++ x ∷ []) ≡ x ∷ reverse history
 newest_first history x = reverse-append history (x ∷ [])
 
-pub legal_step : (g : Settings) (history : List Entry) (x : Entry) → Legal g history → IsWellFormed x.call → Right g history x → Legal g (history ++ x ∷ [])
-legal_step g history x legal formed right = let P : List Entry → Type 0 = λ past. IsLegal g past in subst P (sym (newest_first history x)) (formed, right, legal)
+pub legal_step : (g : Settings) (history : List Entry) (x : Entry) → IsLegalHistory g history → IsWellFormed x.call → IsRightAfter g history x → IsLegalHistory g (history ++ x ∷ [])
+legal_step g history x legal formed right = let P : List Entry → Type 0 = λ past. IsLegalPast g past in subst P (sym (newest_first history x)) (formed, right, legal)
 
 -- a bucket that stands for a history, answers right and makes the step stands for the longer history
-pub stands_step : (history : List Entry) (x : Entry) (old new : Shape) → Stands history old → IsWellFormed x.call → Right old.settings history x → StepsTo x old new → Stands (history ++ x ∷ []) new
+pub stands_step : (history : List Entry) (x : Entry) (old new : Shape) → StandsFor history old → IsWellFormed x.call → IsRightAfter old.settings history x → StepsTo x old new → StandsFor (history ++ x ∷ []) new
 stands_step history x old new stands formed right step =
     let P : List Entry → Type 0 = λ past. Holds past new in
-    let Q : Settings → Type 0 = λ g. Legal g (history ++ x ∷ []) in
+    let Q : Settings → Type 0 = λ g. IsLegalHistory g (history ++ x ∷ []) in
     record {
       legal = subst Q (sym step.settings) (legal_step old.settings history x stands.legal formed right);
       holds = subst P (sym (newest_first history x)) (holds_step x (reverse history) old new stands.holds step);
     }
 
 -- an empty bucket stands for no entries
-pub stands_first : (g : Settings) → Stands [] (record { settings = g; time = 0; torrents = []; notes = []; dropped = 0 })
+pub stands_first : (g : Settings) → StandsFor [] (record { settings = g; time = 0; torrents = []; notes = []; dropped = 0 })
 unfolding IsDistinct
 stands_first g = record {
   legal = tt;

@@ -16,16 +16,27 @@ use Rattle.tracker_model.specs.declared.limits.TheConstants.{WANTED_PEERS}
 abbrev pub IsPeer : Endpoint → Type 0
 IsPeer who = (who.port ≢ 0) × (family_of who.addr ≡ Four)
 
--- a call as clients and nodes may make it: the endpoint that it names can be a peer's, only a seed has
--- completed its download, and at most 200 peers are wanted
+-- a call as clients and nodes may make it: the endpoint that it names can be a peer's, only a seed
+-- has completed its download, and at most 200 peers are wanted
 abbrev pub IsWellFormed : Call → Type 0
-IsWellFormed (Announce h who seed completed want) = (completed ≡ true → seed ≡ true) × (want ≤ WANTED_PEERS) × IsPeer who
+IsWellFormed (Announce h who seed completed want) =
+    (completed ≡ true → seed ≡ true) × (want ≤ WANTED_PEERS) × IsPeer who
 IsWellFormed (Stop h who) = IsPeer who
 IsWellFormed (Scrape h) = Unit {0}
 IsWellFormed Scan = Unit {0}
 IsWellFormed Clean = Unit {0}
 IsWellFormed (Sync h who mark) = IsPeer who
 IsWellFormed Drain = Unit {0}
+
+-- whether a call is what a client asks: an announce, a stop or a scrape
+abbrev pub is_request : Call → Bool
+is_request (Announce h who seed completed want) = true
+is_request (Stop h who) = true
+is_request (Scrape h) = true
+is_request Scan = false
+is_request Clean = false
+is_request (Sync h who mark) = false
+is_request Drain = false
 
 -- the torrent and the endpoint that a call reports on
 abbrev pub subject : Call → Option (InfoHash × Endpoint)
@@ -37,7 +48,8 @@ subject Clean = None
 subject (Sync h who mark) = Some (h, who)
 subject Drain = None
 
--- the same of the calls that report that the endpoint takes part: an announce, and a sync that isn't a stop
+-- the same of the calls that report that the endpoint takes part: an announce, and a sync that
+-- isn't a stop
 abbrev pub joins : Call → Option (InfoHash × Endpoint)
 joins (Announce h who seed completed want) = Some (h, who)
 joins (Stop h who) = None
@@ -49,28 +61,29 @@ joins (Sync h who Seed) = Some (h, who)
 joins (Sync h who Stopped) = None
 joins Drain = None
 
--- what a call says of the endpoint that it reports on: nothing, that it has stopped, or that it takes
--- part, as a seed or not
+-- what a call says of the endpoint that it reports on: nothing, that it has stopped, or that it
+-- takes part, as a seed or not
 pub data Word : Type 0 where
   silent : Word
   gone : Word
   here : Bool → Word
 
 -- the word of a mark
-abbrev pub marked : Mark → Word
-marked Leecher = here false
-marked Seed = here true
-marked Stopped = gone
+abbrev pub mark_word : Mark → Word
+mark_word Leecher = here false
+mark_word Seed = here true
+mark_word Stopped = gone
 
--- the word of a call: an announce says its seed flag, a stop that the endpoint is gone, and a sync its mark
-abbrev pub said : Call → Word
-said (Announce h who seed completed want) = here seed
-said (Stop h who) = gone
-said (Scrape h) = silent
-said Scan = silent
-said Clean = silent
-said (Sync h who mark) = marked mark
-said Drain = silent
+-- the word of a call: an announce says its seed flag, a stop that the endpoint is gone, and a sync
+-- its mark
+abbrev pub call_word : Call → Word
+call_word (Announce h who seed completed want) = here seed
+call_word (Stop h who) = gone
+call_word (Scrape h) = silent
+call_word Scan = silent
+call_word Clean = silent
+call_word (Sync h who mark) = mark_word mark
+call_word Drain = silent
 
 -- whether a call reports on this endpoint of this torrent
 abbrev pub is_about : Call → InfoHash → Endpoint → Bool

@@ -1,4 +1,4 @@
--- Words for the worked examples: two torrents, three peers, and entries that took effect.
+-- Words for the worked examples: torrents, peers, entries, calls on buckets, settings and buckets.
 use Rattle.std.specs.Prelude.{ℕ, Bool, true, false, List, [], ◌∷◌, ◌++◌, replicate}
 use Rattle.ot_base.specs.declared.hash.InfoHash.{InfoHash}
 use Rattle.ot_base.specs.declared.address.Addr.TheVariants.{V4, V6}
@@ -7,8 +7,9 @@ use Rattle.ot_base.specs.declared.peer.Counts.{Counts}
 use Rattle.ot_base.specs.declared.peer.Mark.{Mark}
 use Rattle.ot_base.specs.declared.peer.Note.{Note}
 use Rattle.ot_base.specs.declared.peer.Row.{Row}
+use Rattle.tracker_model.specs.Grows.{Move}
 use Rattle.tracker_model.specs.Settings.{Settings}
-use Rattle.tracker_model.specs.Shape.{Shape}
+use Rattle.tracker_model.specs.Shape.{Shape, Torrent}
 use Rattle.tracker_model.specs.declared.answer.Answer.{Answer}
 use Rattle.tracker_model.specs.declared.answer.Answer.TheVariants.{Told, Stats, Rows, Cleaned, Applied, Drained, SwarmFull, BucketFull, NoMemory}
 use Rattle.tracker_model.specs.declared.call.Call.{Call}
@@ -42,11 +43,13 @@ peer_six = record { addr = V6 (32 ∷ 1 ∷ 13 ∷ 184 ∷ replicate 11 0 ++ 1 �
 
 -- live seeds, downloads, and other live peers
 abbrev pub counts : ℕ → ℕ → ℕ → Counts
-counts complete downloaded incomplete = record { complete = complete; downloaded = downloaded; incomplete = incomplete }
+counts complete downloaded incomplete =
+    record { complete = complete; downloaded = downloaded; incomplete = incomplete }
 
 -- an entry of caller 0, at a minute
 abbrev pub entry : ℕ → Call → Answer → Entry
-entry minute call answer = record { caller = 0; minute = record { 0 = minute }; call = call; answer = answer }
+entry minute call answer =
+    record { caller = 0; minute = record { 0 = minute }; call = call; answer = answer }
 
 -- an announce that was answered, as a leecher, as a seed, and as one that has just completed
 abbrev pub leech : ℕ → InfoHash → Endpoint → Counts → List Endpoint → Entry
@@ -98,11 +101,13 @@ note h who mark = record { hash = h; who = who; mark = mark }
 
 -- limits of so many peers and torrents, and sync
 abbrev pub synced : ℕ → ℕ → Settings
-synced peers torrents = record { limits = record { peers = peers; torrents = torrents }; sync = true }
+synced peers torrents =
+    record { limits = record { peers = peers; torrents = torrents }; sync = true }
 
 -- limits of so many peers and torrents, without sync
 abbrev pub limited : ℕ → ℕ → Settings
-limited peers torrents = record { limits = record { peers = peers; torrents = torrents }; sync = false }
+limited peers torrents =
+    record { limits = record { peers = peers; torrents = torrents }; sync = false }
 
 -- a bucket with no peers, and one that has P in A as a seed since minute 3
 abbrev pub empty_bucket : Shape
@@ -122,3 +127,21 @@ seeded_bucket = record {
   notes = [];
   dropped = 0;
 }
+
+-- A with a peer of each family, as it was at minute 0, and a bucket that still stores it at minute
+-- 1440
+abbrev pub stale_torrent : Torrent
+stale_torrent = record {
+  hash = hash_a;
+  touch = 0;
+  downloaded = 0;
+  fours = record { who = peer_p; seed = true; stamp = record { 0 = 0 } } ∷ [];
+  sixes = record { who = peer_six; seed = false; stamp = record { 0 = 0 } } ∷ [];
+}
+
+abbrev pub stale_bucket : Shape
+stale_bucket = record empty_bucket { time = 1440; torrents = stale_torrent ∷ [] }
+
+-- a call with its answer on a bucket
+abbrev pub on : ℕ → Entry → Move
+on bucket x = record { bucket = bucket; entry = x }

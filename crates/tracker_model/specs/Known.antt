@@ -40,9 +40,11 @@ abbrev pub is_seed : Option Held → Bool
 is_seed None = false
 is_seed (Some held) = held.seed
 
--- whether a call reports that a peer has finished its download of this torrent, which was no live seed before
+-- whether a call reports that a peer has finished its download of this torrent, which was no live
+-- seed before
 abbrev pub is_download : Call → InfoHash → List Entry → ℕ → Bool
-is_download (Announce hash who seed completed want) h past minute = completed && same_hash hash h && not (is_seed (live past h who minute))
+is_download (Announce hash who seed completed want) h past minute =
+    completed && same_hash hash h && not (is_seed (live past h who minute))
 is_download (Stop hash who) h past minute = false
 is_download (Scrape hash) h past minute = false
 is_download Scan h past minute = false
@@ -72,4 +74,7 @@ if_known minute (Some s) = if nat_lt (minute - s.touch) TORRENT_MINUTES then Som
 
 -- what stands of a torrent at a minute, by the entries
 abbrev pub known : List Entry → InfoHash → ℕ → Option Standing
-known past h minute = if_known minute (option_map (λ touch. record { touch = touch; downloaded = downloaded_of past h }) (touch_of past h))
+known past h minute =
+    if_known minute
+    (option_map (λ touch. record { touch = touch; downloaded = downloaded_of past h })
+    (touch_of past h))

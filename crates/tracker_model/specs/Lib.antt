@@ -2,7 +2,9 @@ pub mod Calls
 pub mod Counted
 pub mod Entries
 pub mod Examples
+pub mod Grows
 pub mod Judged
+pub mod Kinds
 pub mod Known
 pub mod Legal
 pub mod Live

@@ -12,7 +12,8 @@ use Rattle.tracker_model.specs.declared.limits.TheConstants.{OUTBOX_NOTES}
 
 -- the note that a local call makes
 abbrev pub note_of : Call → Option Note
-note_of (Announce h who seed completed want) = Some (record { hash = h; who = who; mark = if seed then Seed else Leecher })
+note_of (Announce h who seed completed want) =
+    Some (record { hash = h; who = who; mark = if seed then Seed else Leecher })
 note_of (Stop h who) = Some (record { hash = h; who = who; mark = Stopped })
 note_of (Scrape h) = None
 note_of Scan = None
@@ -37,7 +38,8 @@ note_made x = if is_effective x then note_of x.call else None
 -- the notes that were made since the last drain, oldest first
 abbrev pub notes_since : List Entry → List Note
 notes_since [] = []
-notes_since (x ∷ past) = if is_drain x.call then [] else notes_since past ++ option_to_list (note_made x)
+notes_since (x ∷ past) =
+    if is_drain x.call then [] else notes_since past ++ option_to_list (note_made x)
 
 -- the outbox keeps the first 4,096 of them, where sync is on
 abbrev pub outbox_notes : Settings → List Entry → List Note
@@ -45,4 +47,5 @@ outbox_notes g past = if g.sync then take OUTBOX_NOTES (notes_since past) else [
 
 -- how many it had no place for, as far as 32 bits count
 abbrev pub outbox_dropped : Settings → List Entry → ℕ
-outbox_dropped g past = if g.sync then min 4294967295 (length (notes_since past) - OUTBOX_NOTES) else 0
+outbox_dropped g past =
+    if g.sync then min 4294967295 (length (notes_since past) - OUTBOX_NOTES) else 0

@@ -22,22 +22,28 @@ use Rattle.tracker_model.specs.declared.call.Call.{Call}
 use Rattle.tracker_model.specs.declared.call.Call.TheVariants.{Announce, Stop, Scrape, Scan, Clean, Sync, Drain}
 use Rattle.ot_base.specs.declared.peer.Mark.TheVariants.{Leecher, Seed, Stopped}
 
--- a call meets a full swarm where it brings an endpoint that isn't live to a known torrent that has as
--- many live peers as it may have
+-- a call meets a full swarm where it brings an endpoint that isn't live to a known torrent that has
+-- as many live peers as it may have
 abbrev pub is_swarm_full : Settings → List Entry → ℕ → Call → Bool
 is_swarm_full g past minute call =
-    option_map_or (λ s. not (is_live past s.0 s.1 minute) && is_known past s.0 minute && (swarm_size past s.0 minute == g.limits.peers)) (joins call) false
+    option_map_or
+    (λ s. not (is_live past s.0 s.1 minute) && is_known past s.0 minute &&
+    (swarm_size past s.0 minute == g.limits.peers))
+    (joins call) false
 
--- a call meets a full bucket where it brings an endpoint to a torrent that isn't known, and as many are
--- known as may be
+-- a call meets a full bucket where it brings an endpoint to a torrent that isn't known, and as many
+-- are known as may be
 abbrev pub is_bucket_full : Settings → List Entry → ℕ → Call → Bool
 is_bucket_full g past minute call =
-    option_map_or (λ s. not (is_known past s.0 minute) && (known_count past minute == g.limits.torrents)) (joins call) false
+    option_map_or
+    (λ s. not (is_known past s.0 minute) && (known_count past minute == g.limits.torrents))
+    (joins call) false
 
--- the calls that may want memory: a scan, one that brings an endpoint that isn't live, and where sync is
--- on those that make a note
+-- the calls that may want memory: a scan, one that brings an endpoint that isn't live, and where
+-- sync is on those that make a note
 abbrev pub may_want : Settings → List Entry → ℕ → Call → Bool
-may_want g past minute (Announce h who seed completed want) = g.sync || not (is_live past h who minute)
+may_want g past minute (Announce h who seed completed want) =
+    g.sync || not (is_live past h who minute)
 may_want g past minute (Stop h who) = g.sync
 may_want g past minute (Scrape h) = false
 may_want g past minute Scan = true
@@ -47,8 +53,10 @@ may_want g past minute (Sync h who Seed) = not (is_live past h who minute)
 may_want g past minute (Sync h who Stopped) = false
 may_want g past minute Drain = false
 
--- peers told to an asker: no endpoint twice, each one that may be told, and as many as are wanted, or all
-pub record IsFair (now : List Entry) (h : InfoHash) (asker : Endpoint) (want : ℕ) (peers : List Endpoint) : Type 0 where
+-- peers told to an asker: no endpoint twice, each one that may be told, and as many as are wanted,
+-- or all
+pub record IsFair (now : List Entry) (h : InfoHash) (asker : Endpoint) (want : ℕ)
+    (peers : List Endpoint) : Type 0 where
   pub distinct : distinct_count same_endpoint peers ≡ length peers
   pub drawn : IsTrue (list_all (λ e. may_be_told asker (live now h e (time_of now))) peers)
   pub as_many : length peers ≡ min want (how_many (may_be_told asker) now h (time_of now))
@@ -67,7 +75,8 @@ IsToldAnd NoMemory P = ⊥
 
 -- the answer to a call that takes effect: past are the entries before it, now those with it
 abbrev pub Answers : Settings → (past now : List Entry) → Call → Answer → Type 0
-Answers g past now (Announce h who seed completed want) a = IsToldAnd a (λ counts peers. (counts ≡ counts_of now h) × IsFair now h who want peers)
+Answers g past now (Announce h who seed completed want) a =
+    IsToldAnd a (λ counts peers. (counts ≡ counts_of now h) × IsFair now h who want peers)
 Answers g past now (Stop h who) a = a ≡ Told (counts_of now h) []
 Answers g past now (Scrape h) a = a ≡ Stats (counts_of now h) (is_known now h (time_of now))
 Answers g past now Scan a = a ≡ Rows (rows_of now)
@@ -87,10 +96,11 @@ is_no_memory (SwarmFull count) = false
 is_no_memory (BucketFull count) = false
 is_no_memory NoMemory = true
 
--- an entry's answer is right after the entries before it: it is full exactly where it has to be; else it
--- may be want of memory, where that may come, and any other answer is as the call asks
-abbrev pub IsRight : Settings → List Entry → Entry → Type 0
-IsRight g past x =
+-- an entry's answer is right after the entries before it, of which the newest stands first: it is
+-- full exactly where it has to be; else it may be want of memory, where that may come, and any
+-- other answer is as the call asks
+abbrev pub IsRightAfterPast : Settings → List Entry → Entry → Type 0
+IsRightAfterPast g past x =
     let minute = time_of (x ∷ past) in
     MatchBool (is_swarm_full g past minute x.call) (x.answer ≡ SwarmFull g.limits.peers)
     (MatchBool (is_bucket_full g past minute x.call) (x.answer ≡ BucketFull g.limits.torrents)

@@ -14,8 +14,8 @@ use Rattle.tracker_model.specs.Live.{if_live}
 use Rattle.tracker_model.specs.Settings.{Settings}
 use Rattle.tracker_model.specs.declared.limits.TheConstants.{TORRENT_MINUTES}
 
--- a stored torrent: its hash, the minute of its last touch, its downloads, and its stored peers, those
--- with an IPv4 address and those with an IPv6 address, each in the bucket's order
+-- a stored torrent: its hash, the minute of its last touch, its downloads, and its stored peers,
+-- those with an IPv4 address and those with an IPv6 address, each in the bucket's order
 pub record Torrent : Type 0 where
   pub hash : InfoHash
   pub touch : ℕ
@@ -23,7 +23,8 @@ pub record Torrent : Type 0 where
   pub fours : List Held
   pub sixes : List Held
 
--- a bucket: its settings, its time, its stored torrents, the notes in its outbox, and how many it dropped
+-- a bucket: its settings, its time, its stored torrents, the notes in its outbox, and how many it
+-- dropped
 pub record Shape : Type 0 where
   pub settings : Settings
   pub time : ℕ
@@ -53,7 +54,9 @@ peer_of torrents h e = held_of (stored_peers torrents h) e
 
 -- touch and downloads of the stored torrent of a hash
 abbrev pub standing_of : List Torrent → InfoHash → Option Standing
-standing_of torrents h = option_map (λ torrent. record { touch = torrent.touch; downloaded = torrent.downloaded }) (torrent_of torrents h)
+standing_of torrents h =
+    option_map (λ torrent. record { touch = torrent.touch; downloaded = torrent.downloaded })
+    (torrent_of torrents h)
 
 -- what is live at a minute of the stored peer
 abbrev pub live_in : ℕ → List Torrent → InfoHash → Endpoint → Option Held
@@ -65,7 +68,8 @@ known_in minute torrents h = if_known minute (standing_of torrents h)
 
 -- how many stored peers of the torrent of a hash pass a test of what is live of them at a minute
 abbrev pub count_in : (Option Held → Bool) → ℕ → List Torrent → InfoHash → ℕ
-count_in test minute torrents h = length (filter (λ held. test (if_live minute (Some held))) (stored_peers torrents h))
+count_in test minute torrents h =
+    length (filter (λ held. test (if_live minute (Some held))) (stored_peers torrents h))
 
 -- whether a stored torrent is known at a minute
 abbrev pub is_known_in : ℕ → Torrent → Bool

@@ -10,7 +10,7 @@ use Rattle.ot_base.specs.declared.address.Family.TheVariants.{Four, Six}
 use Rattle.ot_base.specs.declared.peer.Held.{Held}
 use Rattle.tracker_model.specs.Entries.{time_of}
 use Rattle.tracker_model.specs.Known.{known}
-use Rattle.tracker_model.specs.Legal.{Legal}
+use Rattle.tracker_model.specs.Legal.{IsLegalHistory}
 use Rattle.tracker_model.specs.Live.{live}
 use Rattle.tracker_model.specs.Outbox.{outbox_notes, outbox_dropped}
 use Rattle.tracker_model.specs.Shape.{Shape, Torrent, peers_of, live_in, known_in}
@@ -31,8 +31,8 @@ pub record AreTidy (torrents : List Torrent) : Type 0 where
   pub distinct : IsDistinct same_hash (map (λ torrent. torrent.hash) torrents)
   pub each : AllByRecursion IsTidy torrents
 
--- stored torrents keep at a minute what a history says: of each endpoint what is live of it, and of each
--- torrent what is known of it. What is stored but isn't live or known says nothing
+-- stored torrents keep at a minute what a history says: of each endpoint what is live of it, and of
+-- each torrent what is known of it. What is stored but isn't live or known says nothing
 pub record Keeps (past : List Entry) (minute : ℕ) (stored : List Torrent) : Type 0 where
   pub tidy : AreTidy stored
   pub peers : (h : InfoHash) (e : Endpoint) → live_in minute stored h e ≡ live past h e minute
@@ -45,7 +45,8 @@ pub record Holds (past : List Entry) (bucket : Shape) : Type 0 where
   pub noted : bucket.notes ≡ outbox_notes bucket.settings past
   pub lost : bucket.dropped ≡ outbox_dropped bucket.settings past
 
--- a bucket stands for a history with the oldest entry first, which is legal by the bucket's settings
-pub record Stands (history : List Entry) (bucket : Shape) : Type 0 where
-  pub legal : Legal bucket.settings history
+-- a bucket stands for a history with the oldest entry first, which is legal by the bucket's
+-- settings
+pub record StandsFor (history : List Entry) (bucket : Shape) : Type 0 where
+  pub legal : IsLegalHistory bucket.settings history
   pub holds : Holds (reverse history) bucket

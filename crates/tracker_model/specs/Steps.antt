@@ -27,29 +27,37 @@ pub record SameAt (minute : ℕ) (old new : List Torrent) : Type 0 where
 abbrev pub one_more : Bool → ℕ → ℕ
 one_more is_one count = if is_one then min 4294967295 (count + 1) else count
 
--- an endpoint takes part in a torrent: it is live with this flag and stamped with the minute, and the
--- torrent is touched and counts a download, if the endpoint has completed it and wasn't a live seed
-pub record Puts (minute : ℕ) (h : InfoHash) (e : Endpoint) (seed completed : Bool) (old new : List Torrent) : Type 0 where
+-- an endpoint takes part in a torrent: it is live with this flag and stamped with the minute, and
+-- the torrent is touched and counts a download, if the endpoint has completed it and wasn't a live
+-- seed
+pub record Puts (minute : ℕ) (h : InfoHash) (e : Endpoint) (seed completed : Bool)
+    (old new : List Torrent) : Type 0 where
   pub tidy : AreTidy new
-  pub peer : live_in minute new h e ≡ Some (record { who = e; seed = seed; stamp = record { 0 = minute } })
-  pub other_peers : (k : InfoHash) (d : Endpoint) → same_subject (h, e) (k, d) ≡ false → live_in minute new k d ≡ live_in minute old k d
+  pub peer : live_in minute new h e ≡
+      Some (record { who = e; seed = seed; stamp = record { 0 = minute } })
+  pub other_peers : (k : InfoHash) (d : Endpoint) → same_subject (h, e) (k, d) ≡ false →
+      live_in minute new k d ≡ live_in minute old k d
   pub torrent : known_in minute new h ≡ Some (record {
     touch = minute;
-    downloaded = one_more (completed && not (is_seed (live_in minute old h e))) (downloads_in (known_in minute old h));
+    downloaded = one_more (completed && not (is_seed (live_in minute old h e)))
+        (downloads_in (known_in minute old h));
   })
-  pub other_torrents : (k : InfoHash) → same_hash h k ≡ false → known_in minute new k ≡ known_in minute old k
+  pub other_torrents : (k : InfoHash) → same_hash h k ≡ false →
+      known_in minute new k ≡ known_in minute old k
 
 -- an endpoint leaves a torrent: it isn't live in it, and nothing else changes
 pub record Takes (minute : ℕ) (h : InfoHash) (e : Endpoint) (old new : List Torrent) : Type 0 where
   pub tidy : AreTidy new
   pub peer : live_in minute new h e ≡ None
-  pub other_peers : (k : InfoHash) (d : Endpoint) → same_subject (h, e) (k, d) ≡ false → live_in minute new k d ≡ live_in minute old k d
+  pub other_peers : (k : InfoHash) (d : Endpoint) → same_subject (h, e) (k, d) ≡ false →
+      live_in minute new k d ≡ live_in minute old k d
   pub torrents : (k : InfoHash) → known_in minute new k ≡ known_in minute old k
 
 -- the peers and torrents after a call that took effect or didn't
 abbrev pub TorrentStep : Bool → Call → ℕ → (old new : List Torrent) → Type 0
 TorrentStep false call minute old new = SameAt minute old new
-TorrentStep true (Announce h who seed completed want) minute old new = Puts minute h who seed completed old new
+TorrentStep true (Announce h who seed completed want) minute old new =
+    Puts minute h who seed completed old new
 TorrentStep true (Stop h who) minute old new = Takes minute h who old new
 TorrentStep true (Scrape h) minute old new = SameAt minute old new
 TorrentStep true Scan minute old new = SameAt minute old new
@@ -62,18 +70,24 @@ TorrentStep true Drain minute old new = SameAt minute old new
 -- the notes of the outbox after one more, for which there may be no room
 abbrev pub notes_with : Settings → Option Note → List Note → List Note
 notes_with g None notes = notes
-notes_with g (Some note) notes = if g.sync && nat_lt (length notes) OUTBOX_NOTES then notes ++ note ∷ [] else notes
+notes_with g (Some note) notes =
+    if g.sync && nat_lt (length notes) OUTBOX_NOTES then notes ++ note ∷ [] else notes
 
 -- the number of dropped notes after one more note
 abbrev pub dropped_with : Settings → Option Note → List Note → ℕ → ℕ
 dropped_with g None notes dropped = dropped
-dropped_with g (Some note) notes dropped = if g.sync && not (nat_lt (length notes) OUTBOX_NOTES) then min 4294967295 (dropped + 1) else dropped
+dropped_with g (Some note) notes dropped =
+    if g.sync && not (nat_lt (length notes) OUTBOX_NOTES)
+    then min 4294967295 (dropped + 1)
+    else dropped
 
--- a bucket before and after an entry: time doesn't fall, peers and torrents make the entry's step at the
--- time after it, and the outbox gets the entry's note, or is emptied by a drain
+-- a bucket before and after an entry: time doesn't fall, peers and torrents make the entry's step
+-- at the time after it, and the outbox gets the entry's note, or is emptied by a drain
 pub record StepsTo (x : Entry) (old new : Shape) : Type 0 where
   pub settings : new.settings ≡ old.settings
   pub time : new.time ≡ max x.minute.0 old.time
   pub torrents : TorrentStep (is_effective x) x.call new.time old.torrents new.torrents
-  pub notes : new.notes ≡ (if is_drain x.call then [] else notes_with old.settings (note_made x) old.notes)
-  pub dropped : new.dropped ≡ (if is_drain x.call then 0 else dropped_with old.settings (note_made x) old.notes old.dropped)
+  pub notes : new.notes ≡
+      (if is_drain x.call then [] else notes_with old.settings (note_made x) old.notes)
+  pub dropped : new.dropped ≡
+      (if is_drain x.call then 0 else dropped_with old.settings (note_made x) old.notes old.dropped)

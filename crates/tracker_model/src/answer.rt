@@ -5,7 +5,8 @@ use ot_base::{Counts, Notes, Peers, Rows};
 /// An answer of a bucket.
 #[derive(Debug, Drop)]
 pub enum Answer {
-    /// To an announce or a stop: the torrent's counts after it, and other peers. A stop is told none.
+    /// To an announce or a stop: the torrent's counts after it, and other peers. A stop is told
+    /// none.
     Told { counts: Counts, peers: Peers },
     /// To a scrape: the torrent's counts, and whether it is known.
     Stats { counts: Counts, known: bool },
@@ -15,7 +16,8 @@ pub enum Answer {
     Cleaned { held: u64 },
     /// To a sync.
     Applied,
-    /// To a drain: the notes since the last one, oldest first, and how many more there was no place for.
+    /// To a drain: the notes since the last one, oldest first, and how many more there was no place
+    /// for.
     Drained { notes: Notes, dropped: u32 },
     /// The torrent has `count` live peers, as many as it may have.
     SwarmFull { count: u32 },

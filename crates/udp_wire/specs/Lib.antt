@@ -1,2 +1,3 @@
-pub mod ConnectionId
 pub mod Packets
+pub mod Places
+pub mod Replies

@@ -1,6 +1,7 @@
--- The packets of BEP 15, field by field. Places count bytes from 0, and numbers are in network order.
+-- The packets of BEP 15, field by field. Places count bytes from 0, and numbers are in network
+-- order.
 use Rattle.std.specs.Prelude.{ℕ, zero, suc, List, [], ◌∷◌, ◌++◌, ◌+◌, ◌-◌, ◌*◌, ◌/◌, ◌≡◌, ◌≤◌, ◌==◌, ◌⊎◌, All, min, length, take, drop, nat_lt, if◌then◌else◌}
-use Rattle.std.specs.Int.{Width, w16, w32, w64, byte_len, cast_signed, from_be_bytes, to_be_bytes}
+use Rattle.std.specs.Int.{w16, w32, w64, cast_signed, to_be_bytes}
 use Rattle.std.specs.List.{flat_map}
 use Rattle.ot_base.specs.Address.{family_of}
 use Rattle.ot_base.specs.Refusal.{refusal_text}
@@ -13,14 +14,11 @@ use Rattle.ot_base.specs.declared.peer.Counts.{Counts}
 use Rattle.ot_base.specs.declared.peer.Event.{Event}
 use Rattle.ot_base.specs.declared.peer.Event.TheVariants as event
 use Rattle.ot_base.specs.declared.refusal.Refusal.{Refusal}
+use Rattle.udp_wire.specs.Places.{number_at}
 use Rattle.udp_wire.specs.declared.request.Quiet.TheVariants as quiet
 use Rattle.udp_wire.specs.declared.request.UdpAnnounce.{UdpAnnounce}
 use Rattle.udp_wire.specs.declared.request.Request.{Request}
 use Rattle.udp_wire.specs.declared.request.Request.TheVariants.{Connect, Announce, Scrape, Unknown, Silent}
-
--- the number of some width that stands at a place
-abbrev pub number_at : Width → ℕ → List ℕ → ℕ
-number_at w place bytes = from_be_bytes w (take (byte_len w) (drop place bytes))
 
 -- the info hash that stands at a place
 abbrev pub hash_at : ℕ → List ℕ → InfoHash
@@ -55,9 +53,9 @@ connect_of bytes =
     if connection_of bytes == 0x41727101980 then Connect (transaction_of bytes)
     else Silent quiet.Protocol
 
--- announce: connection id (0: 8), action 1 (8: 4), transaction id (12: 4), info hash (16: 20),
--- peer id (36: 20), downloaded (56: 8), left (64: 8), uploaded (72: 8), event (80: 4), IP address (84: 4),
--- key (88: 4), num_want (92: 4, signed), port (96: 2)
+-- announce: connection id (0: 8), action 1 (8: 4), transaction id (12: 4), info hash (16: 20), peer
+-- id (36: 20), downloaded (56: 8), left (64: 8), uploaded (72: 8), event (80: 4), IP address (84:
+-- 4), key (88: 4), num_want (92: 4, signed), port (96: 2)
 unfoldable pub fields_of : List ℕ → UdpAnnounce
 fields_of bytes = record {
   connection = connection_of bytes;
@@ -70,14 +68,17 @@ fields_of bytes = record {
 }
 
 unfoldable pub announce_of : List ℕ → Request
-announce_of bytes = if nat_lt (length bytes) 98 then Silent quiet.Announce else Announce (fields_of bytes)
+announce_of bytes =
+    if nat_lt (length bytes) 98 then Silent quiet.Announce
+    else Announce (fields_of bytes)
 
--- scrape: connection id (0: 8), action 2 (8: 4), transaction id (12: 4), then 20 bytes a hash. The first
--- 74 whole hashes count.
+-- scrape: connection id (0: 8), action 2 (8: 4), transaction id (12: 4), then 20 bytes a hash. The
+-- first 74 whole hashes count.
 unfoldable pub scrape_of : List ℕ → Request
 scrape_of bytes =
     if nat_lt (length bytes) 36 then Silent quiet.Scrape
-    else Scrape (connection_of bytes) (transaction_of bytes) (hashes_of (min ((length bytes - 16) / 20) 74) bytes)
+    else Scrape (connection_of bytes) (transaction_of bytes)
+    (hashes_of (min ((length bytes - 16) / 20) 74) bytes)
 
 -- what a datagram asks, by its length and its action
 unfoldable pub request_of : List ℕ → Request
@@ -109,7 +110,8 @@ AreTellable peers =
 
 -- action 0 (4), transaction id (4), connection id (8)
 unfoldable pub connect_reply : ℕ → ℕ → List ℕ
-connect_reply transaction connection = to_be_bytes w32 0 ++ to_be_bytes w32 transaction ++ to_be_bytes w64 connection
+connect_reply transaction connection =
+    to_be_bytes w32 0 ++ to_be_bytes w32 transaction ++ to_be_bytes w64 connection
 
 -- action 1 (4), transaction id (4), interval 1800 (4), leechers (4), seeders (4)
 unfoldable pub announce_head : ℕ → Counts → List ℕ
@@ -119,7 +121,19 @@ announce_head transaction counts =
 
 -- these fields, then the peers
 unfoldable pub announce_reply : ℕ → Counts → List Endpoint → List ℕ
-announce_reply transaction counts peers = announce_head transaction counts ++ flat_map peer_bytes peers
+announce_reply transaction counts peers =
+    announce_head transaction counts ++ flat_map peer_bytes peers
+
+-- the counts of one hash: seeders (4), completed (4), leechers (4)
+abbrev pub counts_bytes : Counts → List ℕ
+counts_bytes counts =
+    to_be_bytes w32 counts.complete ++ to_be_bytes w32 counts.downloaded
+    ++ to_be_bytes w32 counts.incomplete
+
+-- action 2 (4), transaction id (4), then the counts of each hash
+unfoldable pub scrape_reply : ℕ → List Counts → List ℕ
+scrape_reply transaction counts =
+    to_be_bytes w32 2 ++ to_be_bytes w32 transaction ++ flat_map counts_bytes counts
 
 -- action 3 (4), transaction id (4), the text to the end
 unfoldable pub error_reply : ℕ → Refusal → List ℕ

@@ -1,8 +1,10 @@
-//! The fields of a datagram: numbers in network order and info hashes, at places that count bytes from 0.
+//! The fields of a datagram: numbers in network order and info hashes, at places that count bytes
+//! from 0.
 
 ghost use Rattle.std.specs.Prelude.{◌≡◌, ◌+◌, ◌≤◌, ◌++◌, length, take};
 ghost use Rattle.std.specs.Int.{w16, w32, w64, cast_signed, to_be_bytes};
-ghost use Rattle.udp_wire.specs.Packets.{number_at, hash_at};
+ghost use Rattle.udp_wire.specs.Packets.{hash_at};
+ghost use Rattle.udp_wire.specs.Places.{number_at};
 
 use ot_base::InfoHash;
 

@@ -17,6 +17,17 @@ const TRANSACTION: usize = 12;
 /// The length of these three, with which every request begins.
 const HEAD: usize = 16;
 
+/// The place of the info hash in an announce.
+const ANNOUNCED_HASH: usize = 16;
+/// The place of how many bytes are left.
+const LEFT: usize = 64;
+/// The place of the event.
+const EVENT: usize = 80;
+/// The place of num_want.
+const WANT: usize = 92;
+/// The place of the port.
+const PORT: usize = 96;
+
 /// The protocol id, by which a connect is told from other datagrams.
 const PROTOCOL: u64 = 0x0000_0417_2710_1980;
 
@@ -130,11 +141,11 @@ fn read_fields(bytes: &[u8]) -> UdpAnnounce
     UdpAnnounce {
         connection: u64_at(bytes, CONNECTION),
         transaction: u32_at(bytes, TRANSACTION),
-        hash: info_hash_at(bytes, HEAD),
-        left: u64_at(bytes, 64),
-        event: event_of_number(u32_at(bytes, 80)),
-        want: i32_at(bytes, 92),
-        port: u16_at(bytes, 96),
+        hash: info_hash_at(bytes, ANNOUNCED_HASH),
+        left: u64_at(bytes, LEFT),
+        event: event_of_number(u32_at(bytes, EVENT)),
+        want: i32_at(bytes, WANT),
+        port: u16_at(bytes, PORT),
     }
 }
 

@@ -8,7 +8,7 @@ loop-init g c = Keeps-refl _
 
 pub loop-preserved : goal.loop-preserved
 loop-preserved g c =
-    Keeps-trans _ _ _ c.loop.invariant (Keeps-from_failed_read _ _ _ _ (c.is_interrupted.ensures c.if-not-is_interrupted.false) c.read-answer.ensures.bytes)
+    Keeps-trans _ _ _ c.loop.invariant (Keeps-from_failed_read _ _ _ _ _ (c.is_interrupted.ensures.0 c.if-not-is_interrupted.false) c.read-answer.ensures.bytes)
 
 pub returns-then-not-is_interrupted-clause-bytes : goal.returns-then-not-is_interrupted-clause-bytes
 returns-then-not-is_interrupted-clause-bytes g c = Keeps-ReadConsumes _ _ _ _ _ c.loop.invariant c.read-answer.ensures.bytes

@@ -7,7 +7,7 @@ use Rattle.tracker_model.specs.Counted.{is_leecher}
 use Rattle.tracker_model.specs.Known.{is_seed}
 use Rattle.tracker_model.specs.Live.{if_live}
 use Rattle.tracker_model.specs.Shape.{Torrent, peers_of}
-use Rattle.bucket.specs.Torrents.{counted}
+use Rattle.bucket.specs.Torrents.{counts_at}
 use Rattle.bucket.proofs.Places.{length-filters, filters_within}
 use Rattle.bucket.proofs.stored.Stored.counts.Goals as goal
 
@@ -80,4 +80,4 @@ returns c =
     let told = λ (complete incomplete : ℕ). (let counts : Counts = record { complete = complete; downloaded = c.self.inside.downloaded; incomplete = incomplete } in counts) in
     ap (λ n. told n (c.leechers_in.result + c.leechers_in-2.result)) seeds
     ∙ ap (λ n. told (length (filter (λ held. is_seed (if_live c.args.now.0 (Some held))) (fours ++ sixes))) n) leechers
-    ∙ ap (λ t. counted c.args.now.0 t) c.self.view_is
+    ∙ ap (λ t. counts_at c.args.now.0 t) c.self.view_is

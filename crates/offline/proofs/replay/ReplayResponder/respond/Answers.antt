@@ -1,27 +1,26 @@
 use Rattle.std.proofs.Common.{take, refl}
-use Rattle.offline.specs.Replay.{reply_line}
+use Rattle.trace_text.specs.Trace.{record_in}
+use Rattle.offline.specs.Follows.{Follows}
+use Rattle.offline.specs.Replay.{IsRefused}
+use Rattle.offline.specs.declared.replay.Replay.{Replay}
+use Rattle.offline.proofs.Following.{follows_by, line_planned, write_failed}
 use Rattle.offline.proofs.replay.ReplayResponder.respond.Goals as goal
 
-pub returns-in_ok-push_reply-in-Some : goal.returns-in_ok-push_reply-in-Some
-returns-in_ok-push_reply-in-Some c =
-    let reply = take c.in-Some.len c.carry_out.new.reply in (
-      reply_line reply,
-      record {
-        secret = refl;
-        settings = c.carry_out.ensures.settings;
-        answered = λ history stands.
-            let replied = c.in-Some.ensures.replied history stands in (
-              replied.0,
-              record {
-                minute = c.in-Ok.planned.0;
-                plan = c.in-Ok.planned.1;
-                reply = reply;
-                planned = c.in-Ok.ensures.planned;
-                replied = replied.1;
-                written = refl;
-              },
-              replied.2,
-            );
-      },
-      c.in_ok-push_reply-in-Some.ensures.ok,
+pub returns-clause-responds : goal.returns-clause-responds
+returns-clause-responds g c =
+    let is_planned = line_planned c.args.self.now.secret c.args.line.now (record_in c.in-Ok.record c.read_datagram.new.bytes) c.of_seconds-minute.result c.plan_udp-plan.result
+    c.in-Ok.ensures.read c.of_seconds-minute.ensures c.plan_udp-plan.ensures.planned in (
+      take c.in-Some.len c.write_outcome.new.out,
+      follows_by c.args.self.now _ c.args.line.now _ c.of_seconds-minute.result c.plan_udp-plan.result c.carry_out-outcome.new.reply c.carry_out-outcome.result
+          is_planned refl c.carry_out-outcome.ensures.settings c.carry_out-outcome.ensures.carried (c.in-Some.ensures.line c.plan_udp-plan.result),
+      c.in_ok-add.ensures.added,
     )
+
+pub returns-in_err-add-clause-responds : goal.returns-in_err-add-clause-responds
+returns-in_err-add-clause-responds g c =
+    let is_planned = line_planned c.args.self.now.secret c.args.line.now (record_in c.in-Ok.record c.read_datagram.new.bytes) c.of_seconds-minute.result c.plan_udp-plan.result
+    c.in-Ok.ensures.read c.of_seconds-minute.ensures c.plan_udp-plan.ensures.planned in
+    write_failed Follows (λ (old : Replay) line fault. IsRefused old.secret line fault) c.args.self.now _ c.args.line.now (take c.in-Some.len c.write_outcome.new.out) _ _ _ _ c.from_residual.result c.from_residual.ensures.1
+    (follows_by c.args.self.now _ c.args.line.now _ c.of_seconds-minute.result c.plan_udp-plan.result c.carry_out-outcome.new.reply c.carry_out-outcome.result
+    is_planned refl c.carry_out-outcome.ensures.settings c.carry_out-outcome.ensures.carried (c.in-Some.ensures.line c.plan_udp-plan.result))
+    c.in_err-add.ensures.lost

@@ -1,0 +1,8 @@
+pub mod Along
+mod AnswerLemmas
+mod BufferLemmas
+pub mod Complete
+mod EndLemmas
+pub mod ReplyLemmas
+mod RunLemmas
+pub mod TextLemmas

@@ -1,0 +1,73 @@
+//! The output line of a record.
+
+ghost use Rattle.std.specs.Prelude.{◌≡◌, ◌≤◌, ◌*◌, ◌↔◌, List, Some, IfSome, IsNone, length, take};
+ghost use Rattle.hex.specs.Hex.{encode_lower};
+ghost use Rattle.tracker_core.specs.declared.udp_plan.UdpPlan.{UdpPlan};
+ghost use Rattle.tracker_model.specs.declared.answer.Answer.{Answer};
+ghost use Rattle.offline.specs.Outcome.{HasRoom, IsOutcome};
+ghost use Rattle.offline.specs.Records.{output_line, reply_line, silent_line};
+
+use crate::carry_out::Outcome;
+use udp_wire::{Quiet, REPLY_ROOM};
+
+/// How many bytes an output line has at most: two before the digits, two digits a byte, and the
+/// end.
+pub const OUTPUT_ROOM: usize = 2 + 2 * REPLY_ROOM + 1;
+
+/// Writes the output line of what came of a record, and tells how many bytes that is. Where there
+/// was no memory there is none.
+pub fn write_outcome(
+    outcome: Outcome,
+    reply: &[u8; REPLY_ROOM],
+    out: &mut [u8; OUTPUT_ROOM],
+) -> Option<usize>
+    requires { HasRoom outcome }
+    ensures line { (plan : UdpPlan) (answers : List Answer) →
+        IsOutcome plan answers reply.now outcome →
+        IfSome result (λ len. output_line plan answers ≡ Some (take len out.new)) }
+    ensures fits { IfSome result (λ len. len ≤ OUTPUT_ROOM) }
+    ensures none { IsNone result ↔ (outcome ≡ Outcome.NoMemory) }
+{
+    match outcome {
+        Outcome::Silent(quiet) => Some(write_silent_line(quiet, out)),
+        Outcome::Replied(len) => Some(write_reply_line(&reply[..len], out)),
+        Outcome::NoMemory => None,
+    }
+}
+
+/// Writes `R `, the reply in lower-case hex digits and the line's end, and tells how many bytes
+/// that is.
+fn write_reply_line(reply: &[u8], out: &mut [u8; OUTPUT_ROOM]) -> usize
+    requires { length reply.now ≤ REPLY_ROOM }
+    ensures line { take result out.new ≡ reply_line reply.now }
+    ensures fits { result ≤ OUTPUT_ROOM }
+{
+    let end = 2 + 2 * reply.len();
+    out[..2].copy_from_slice(b"R ");
+    encode_digits(reply, &mut out[2..end]);
+    out[end] = b'\n';
+    end + 1
+}
+
+/// Writes `S `, why there is no reply, and the line's end, and tells how many bytes that is.
+fn write_silent_line(quiet: Quiet, out: &mut [u8; OUTPUT_ROOM]) -> usize
+    ensures line { take result out.new ≡ silent_line quiet }
+    ensures fits { result ≤ OUTPUT_ROOM }
+{
+    let line = match quiet {
+        Quiet::Short => "S short\n",
+        Quiet::Protocol => "S protocol\n",
+        Quiet::Announce => "S announce\n",
+        Quiet::Scrape => "S scrape\n",
+    };
+    out[..line.len()].copy_from_slice(line.as_bytes());
+    line.len()
+}
+
+/// Writes bytes as lower-case hex digits.
+fn encode_digits(bytes: &[u8], digits: &mut [u8])
+    requires { length digits.old ≡ 2 * length bytes.now }
+    ensures { digits.new ≡ encode_lower bytes.now }
+{
+    let _ = hex::encode_to_slice(bytes, digits);
+}

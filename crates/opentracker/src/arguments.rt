@@ -1,0 +1,135 @@
+//! The run that the program's arguments ask for, and the code that the process ends with.
+
+ghost use Rattle.std.specs.Prelude.{◌≡◌, IfOk, MatchResult, drop, map, string_bytes};
+ghost use Rattle.ot_io.specs.Message.{TellsLine, status_text};
+ghost use Rattle.ot_io.specs.Status.{code_of};
+ghost use Rattle.ot_io.specs.declared.status.Status.{Status};
+ghost use Rattle.std.specs.IoError.{error_kind};
+ghost use Rattle.std.specs.Vec.Iter.{into_iter_items};
+ghost use Rattle.opentracker.specs.Run.{IsWordsRun, IsUnread};
+
+use crate::run::run;
+use ot_io::{Sink, Source, Status, report};
+use std::alloc::{AllocError, Global};
+use std::env::Args;
+use std::io;
+
+/// Runs what the arguments ask for, of which the first is the program's name, and gives the number
+/// that the process ends with.
+pub fn run_args<S: Source, O: Sink, E: Sink>(
+    alloc: Global,
+    args: io::Result<Args>,
+    input: &mut S,
+    out: &mut O,
+    err: &mut E,
+) -> u8
+    ensures { (status : Status) × (result ≡ code_of status)
+        × MatchResult args
+        (λ texts. IsWordsRun S.left S.ends S.faults O.written O.faults
+        (map string_bytes (drop 1 (into_iter_items texts)))
+        input.old input.new out.old out.new status)
+        (λ error. IsUnread (error_kind error) status
+        × (input.new ≡ input.old) × (out.new ≡ out.old))
+        × TellsLine (E.written err.old) (E.written err.new)
+        (E.faults err.old) (E.faults err.new) (status_text status) }
+{
+    let status = match args {
+        Ok(args) => run_read(alloc, args, input, out, err),
+        Err(error) => tell(unread_status(&error), err),
+    };
+    status.code()
+}
+
+/// Runs what arguments ask for that could be read.
+fn run_read<S: Source, O: Sink, E: Sink>(
+    alloc: Global,
+    args: Args,
+    input: &mut S,
+    out: &mut O,
+    err: &mut E,
+) -> Status
+    ensures ran { IsWordsRun S.left S.ends S.faults O.written O.faults
+        (map string_bytes (drop 1 (into_iter_items args)))
+        input.old input.new out.old out.new result }
+    ensures told { TellsLine (E.written err.old) (E.written err.new)
+        (E.faults err.old) (E.faults err.new) (status_text result) }
+{
+    match texts_of(alloc, args) {
+        Ok(texts) => run_texts(alloc, behind_name(&texts), input, out, err),
+        Err(_) => tell(Status::NoMemory, err),
+    }
+}
+
+/// The arguments as a list.
+fn texts_of(alloc: Global, mut args: Args) -> Result<Vec<String>, AllocError>
+    ensures { IfOk result (λ texts. texts.items ≡ into_iter_items args) }
+{
+    let mut texts = Vec::new(alloc);
+    while let Some(text) = args.next() {
+        texts.push(text)?;
+    }
+    Ok(texts)
+}
+
+/// The arguments behind the program's name.
+fn behind_name(args: &[String]) -> &[String]
+    ensures { result.now ≡ drop 1 args.now }
+{
+    match args {
+        [] => args,
+        [_name, others @ ..] => others,
+    }
+}
+
+/// Runs what these texts ask for.
+fn run_texts<S: Source, O: Sink, E: Sink>(
+    alloc: Global,
+    texts: &[String],
+    input: &mut S,
+    out: &mut O,
+    err: &mut E,
+) -> Status
+    ensures ran { IsWordsRun S.left S.ends S.faults O.written O.faults
+        (map string_bytes texts.now) input.old input.new out.old out.new result }
+    ensures told { TellsLine (E.written err.old) (E.written err.new)
+        (E.faults err.old) (E.faults err.new) (status_text result) }
+{
+    match words_of(alloc, texts) {
+        Ok(words) => run(alloc, &words, input, out, err),
+        Err(_) => tell(Status::NoMemory, err),
+    }
+}
+
+/// The texts as words.
+fn words_of(alloc: Global, texts: &[String]) -> Result<Vec<&str>, AllocError>
+    ensures { IfOk result
+        (λ words. map (λ word. word.now) words.items ≡ map string_bytes texts.now) }
+{
+    let mut words = Vec::new(alloc);
+    for text in texts {
+        words.push(text.as_str())?;
+    }
+    Ok(words)
+}
+
+/// The status of arguments that can't be read. One that isn't UTF-8 can't stand; which one it is
+/// isn't known, so the first place is told.
+fn unread_status(error: &io::Error) -> Status
+    ensures { IsUnread (error_kind error.now) result }
+{
+    if error.kind() == io::ErrorKind::OutOfMemory {
+        Status::NoMemory
+    } else {
+        Status::Words { at: 0 }
+    }
+}
+
+/// Tells a status, and gives it back.
+fn tell<E: Sink>(status: Status, err: &mut E) -> Status
+    ensures same { result ≡ status }
+    ensures told { TellsLine (E.written err.old) (E.written err.new)
+        (E.faults err.old) (E.faults err.new) (status_text status) }
+{
+    report(status, err);
+    status
+}

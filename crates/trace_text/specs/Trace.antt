@@ -1,0 +1,111 @@
+-- One line of a trace: what it records, or the fault of its first bad part.
+use Rattle.std.specs.Prelude.{ℕ, ◌-◌, ◌^◌, ◌==◌, ◌&&◌, nat_lt, nat_le, Bool, if◌then◌else◌, List, [], ◌∷◌, length, take, slice_index, codes, Option, Some, None, Result, Ok, Err}
+use Rattle.std.specs.Char.{is_ascii_digit}
+use Rattle.std.specs.List.{slice_split, list_all}
+use Rattle.std.specs.Option.{ok_or}
+use Rattle.std.specs.Str.{bytes_eq}
+use Rattle.std.specs.Str.Parse.{digits_value}
+use Rattle.hex.specs.Hex.{decode_of, is_hex_digit}
+use Rattle.hex.specs.declared.error.FromHexError.{FromHexError}
+use Rattle.ot_base.specs.declared.address.Addr.{Addr}
+use Rattle.ot_base.specs.declared.address.Addr.TheVariants.{V4}
+use Rattle.ot_base.specs.declared.address.Endpoint.{Endpoint}
+use Rattle.ot_base.specs.declared.fault.TraceFault.{TraceFault}
+use Rattle.ot_base.specs.declared.fault.TraceFault.TheVariants.{Form, Number, Hex, Address, Unbuilt}
+use Rattle.trace_text.specs.declared.datagram.Datagram.{Datagram}
+
+-- a datagram that a line records: the second at which it came, from whom, and those of its bytes
+-- that count
+pub record Record : Type 0 where
+  pub seconds : ℕ
+  pub from : Endpoint
+  pub bytes : List ℕ
+
+-- the second step, where the first found no fault
+infixl 10 ◌>>=◌
+abbrev pub ◌>>=◌ : {A B : Type 0}
+    → Result A TraceFault → (A → Result B TraceFault) → Result B TraceFault
+Ok x >>= f = f x
+Err fault >>= f = Err fault
+
+-- a text cut at each place where the separator stands
+abbrev pub parts_of : ℕ → List ℕ → List (List ℕ)
+parts_of separator text = slice_split (λ b. b == separator) text
+
+-- the number that 1 to `most` decimal digits write, where it is at most `greatest`
+abbrev pub number_of : ℕ → ℕ → List ℕ → Option ℕ
+number_of most greatest text =
+    if nat_le 1 (length text) && nat_le (length text) most && list_all is_ascii_digit text
+    && nat_le (digits_value 10 text) greatest
+    then Some (digits_value 10 text)
+    else None
+
+-- a moment in seconds: 1 to 20 decimal digits of a value below 2^64
+abbrev pub seconds_of : List ℕ → Result ℕ TraceFault
+seconds_of text = ok_or (number_of 20 (2 ^ 64 - 1) text) Number
+
+-- a port: 1 to 5 decimal digits of a value of 16 bits
+abbrev pub port_of : List ℕ → Result ℕ TraceFault
+port_of text = ok_or (number_of 5 65535 text) Number
+
+-- a zero (48) before another character
+abbrev pub has_leading_zero : List ℕ → Bool
+has_leading_zero text = nat_lt 1 (length text) && (slice_index text 0 == 48)
+
+-- one number of a dotted address: from 0 to 255, without leading zeros
+abbrev pub octet_of : List ℕ → Result ℕ TraceFault
+octet_of text = ok_or (if has_leading_zero text then None else number_of 3 255 text) Address
+
+-- an IPv4 address as four numbers
+abbrev pub dotted_of : List (List ℕ) → Result Addr TraceFault
+dotted_of (first ∷ second ∷ third ∷ fourth ∷ []) = do
+  a ← octet_of first
+  b ← octet_of second
+  c ← octet_of third
+  d ← octet_of fourth
+  Ok (V4 (a ∷ b ∷ c ∷ d ∷ []))
+dotted_of parts = Err Address
+
+-- an IPv6 address: its 32 hex digits
+abbrev pub is_six : List ℕ → Bool
+is_six text = (length text == 32) && list_all is_hex_digit text
+
+-- an address: four numbers with dots (46) between, or an IPv6 address, which isn't answered yet
+abbrev pub address_of : List ℕ → Result Addr TraceFault
+address_of text = if is_six text then Err Unbuilt else dotted_of (parts_of 46 text)
+
+-- the first 2,048 of the bytes that a text decoded to
+abbrev pub counted_of : Result (List ℕ) FromHexError → Result (List ℕ) TraceFault
+counted_of (Ok bytes) = Ok (take 2048 bytes)
+counted_of (Err e) = Err Hex
+
+-- what the fields after a `U` record, judged from left to right
+abbrev pub datagram_of : List ℕ → List ℕ → List ℕ → List ℕ → Result Record TraceFault
+datagram_of time address port hex = do
+  seconds ← seconds_of time
+  addr ← address_of address
+  port ← port_of port
+  bytes ← counted_of (decode_of hex)
+  Ok (record { seconds = seconds; from = record { addr = addr; port = port }; bytes = bytes })
+
+-- what the fields of a line record; of the other kinds of records none is answered yet
+abbrev pub fields_record : List (List ℕ) → Result Record TraceFault
+fields_record (kind ∷ time ∷ address ∷ port ∷ hex ∷ []) =
+    if bytes_eq kind (codes "U") then datagram_of time address port hex
+    else if bytes_eq kind (codes "H") then Err Unbuilt
+    else Err Form
+fields_record (kind ∷ time ∷ []) = if bytes_eq kind (codes "C") then Err Unbuilt else Err Form
+fields_record fields = Err Form
+
+-- what a line records, its fields cut at each space (32)
+abbrev pub line_of : List ℕ → Result Record TraceFault
+line_of line = fields_record (parts_of 32 line)
+
+-- a datagram that was read, with these bytes
+abbrev pub record_with : Datagram → List ℕ → Record
+record_with datagram bytes =
+    record { seconds = datagram.seconds; from = datagram.from; bytes = bytes }
+
+-- a datagram that was read, its bytes at the front of a buffer
+abbrev pub record_in : Datagram → List ℕ → Record
+record_in datagram buffer = record_with datagram (take datagram.len buffer)

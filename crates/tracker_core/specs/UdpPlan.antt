@@ -1,0 +1,103 @@
+-- What is to be done for a datagram, as a function of what it asks, who sent it and when.
+use Rattle.std.specs.Prelude.{ℕ, ℤ, pos, negsuc, Bool, true, false, ◌||◌, ◌==◌, ◌≤◌, min, List, [], ◌∷◌}
+use Rattle.std.specs.Prelude.{length, map, if◌then◌else◌}
+use Rattle.ot_base.specs.declared.address.Endpoint.{Endpoint}
+use Rattle.ot_base.specs.declared.hash.InfoHash.{InfoHash}
+use Rattle.ot_base.specs.declared.hash.Secret.{Secret}
+use Rattle.ot_base.specs.declared.minute.Minute.{Minute}
+use Rattle.ot_base.specs.declared.peer.Event.{Event}
+use Rattle.ot_base.specs.declared.peer.Event.TheVariants as event
+use Rattle.ot_base.specs.declared.refusal.Refusal.TheVariants as refusal
+use Rattle.tracker_model.specs.declared.call.Call.{Call}
+use Rattle.tracker_model.specs.declared.call.Call.TheVariants as call
+use Rattle.conn_id.specs.ConnectionId.{mint_of, accepted_id}
+use Rattle.udp_wire.specs.declared.request.UdpAnnounce.{UdpAnnounce}
+use Rattle.udp_wire.specs.declared.request.Request.{Request}
+use Rattle.udp_wire.specs.declared.request.Request.TheVariants as request
+use Rattle.tracker_core.specs.declared.udp_plan.UdpPlan.{UdpPlan}
+use Rattle.tracker_core.specs.declared.udp_plan.UdpPlan.TheVariants.{Silent, Connected, Refused, Announce, Scrape}
+
+-- how many peers an announce wants to be told: 50 where its number is negative, and at most 200
+abbrev pub wanted_peers : ℤ → ℕ
+wanted_peers (pos n) = min n 200
+wanted_peers (negsuc n) = 50
+
+-- where the client listens: the address that the datagram came from, and the port that it names
+abbrev pub listener_of : Endpoint → UdpAnnounce → Endpoint
+listener_of from a = record { addr = from.addr; port = a.port }
+
+-- an announce of a peer that takes part: a seed where nothing is left, or where it has just
+-- finished
+abbrev pub joining_call : Endpoint → UdpAnnounce → Bool → Call
+joining_call from a completed =
+    call.Announce a.hash (listener_of from a) (a.left == 0 || completed) completed
+    (wanted_peers a.want)
+
+-- the call of an announce, by its event
+abbrev pub event_call : Event → Endpoint → UdpAnnounce → Call
+event_call event.Nothing from a = joining_call from a false
+event_call event.Started from a = joining_call from a false
+event_call event.Completed from a = joining_call from a true
+event_call event.Stopped from a = call.Stop a.hash (listener_of from a)
+
+abbrev pub announce_call : Endpoint → UdpAnnounce → Call
+announce_call from a = event_call a.event from a
+
+-- an announce or a stop needs a connection id of its address that isn't too old, and a port
+abbrev pub announce_plan : Secret → Endpoint → Minute → UdpAnnounce → UdpPlan
+announce_plan secret from minute a =
+    if accepted_id secret from.addr minute a.connection
+    then (if a.port == 0 then Refused a.transaction refusal.BadPort
+    else Announce a.transaction (announce_call from a))
+    else Refused a.transaction refusal.ConnectionId
+
+-- so does a scrape
+abbrev pub scrape_plan : Secret → Endpoint → Minute → ℕ → ℕ → List InfoHash → UdpPlan
+scrape_plan secret from minute connection transaction hashes =
+    if accepted_id secret from.addr minute connection then Scrape transaction hashes
+    else Refused transaction refusal.ConnectionId
+
+-- the plan for what a datagram asks
+abbrev pub udp_plan : Secret → Endpoint → Minute → Request → UdpPlan
+udp_plan secret from minute (request.Silent quiet) = Silent quiet
+udp_plan secret from minute (request.Connect transaction) =
+    Connected transaction (mint_of secret from.addr minute)
+udp_plan secret from minute (request.Unknown transaction action) =
+    Refused transaction refusal.Action
+udp_plan secret from minute (request.Announce a) = announce_plan secret from minute a
+udp_plan secret from minute (request.Scrape connection transaction hashes) =
+    scrape_plan secret from minute connection transaction hashes
+
+-- the calls that a plan makes, in order: none, one, or a scrape for each hash, repeats too
+abbrev pub calls_of : UdpPlan → List Call
+calls_of (Silent quiet) = []
+calls_of (Connected transaction connection) = []
+calls_of (Refused transaction why) = []
+calls_of (Announce transaction call) = call ∷ []
+calls_of (Scrape transaction hashes) = map call.Scrape hashes
+
+-- an announce or a stop: what a plan of one call makes
+abbrev pub IsReport : Call → Type 0
+IsReport (call.Announce hash who seed completed want) = Unit {0}
+IsReport (call.Stop hash who) = Unit {0}
+IsReport (call.Scrape hash) = ⊥
+IsReport call.Scan = ⊥
+IsReport call.Clean = ⊥
+IsReport (call.Sync hash who mark) = ⊥
+IsReport call.Drain = ⊥
+
+-- where it is a scrape, it names a torrent
+abbrev pub Names : Request → Type 0
+Names (request.Scrape connection transaction hashes) = 1 ≤ length hashes
+Names (request.Connect transaction) = Unit {0}
+Names (request.Announce announce) = Unit {0}
+Names (request.Unknown transaction action) = Unit {0}
+Names (request.Silent quiet) = Unit {0}
+
+-- the one call of a plan is a report, and a scrape names a torrent
+abbrev pub IsComplete : UdpPlan → Type 0
+IsComplete (Silent quiet) = Unit {0}
+IsComplete (Connected transaction connection) = Unit {0}
+IsComplete (Refused transaction why) = Unit {0}
+IsComplete (Announce transaction call) = IsReport call
+IsComplete (Scrape transaction hashes) = 1 ≤ length hashes
