@@ -1,0 +1,23 @@
+use Rattle.std.proofs.Common.{refl, false, sym, ap, ◌∙◌, subst}
+use Rattle.std.specs.Prelude.{IsTrue, decimal}
+use Rattle.bencode_text.specs.Bencode.{integer, value_text}
+use Rattle.bencode_text.specs.Draft.{takes_value, with_value}
+use Rattle.bencode_text.specs.declared.writer.Writer.TheInside.{Inside}
+use Rattle.bencode_text.proofs.DraftLemmas.{IsInteger-decimal}
+use Rattle.bencode_text.proofs.WriterLemmas.{value_step}
+use Rattle.bencode_text.proofs.writer.Writer.int.Goals as goal
+
+pub invariant_of-self-2 : goal.invariant_of-self-2
+invariant_of-self-2 c =
+    let n : Inside = record { text = c.append_integer.new.text; place = c.after_value-self-inside.result; outer = c.self.inside.outer } in
+    (value_step c.self.inside n (integer false (decimal c.args.value)) c.self.invariant
+    (subst (λ d. IsTrue (takes_value d.dicts d.whole)) (sym c.self.view_is) c.requires) (IsInteger-decimal c.args.value c.ranges.value.fits) refl
+    c.in_ok-append_integer.ensures.ok c.after_value-self-inside.ensures refl).0
+
+pub returns-clause-ok : goal.returns-clause-ok
+returns-clause-ok c =
+    let n : Inside = record { text = c.append_integer.new.text; place = c.after_value-self-inside.result; outer = c.self.inside.outer } in
+    (value_step c.self.inside n (integer false (decimal c.args.value)) c.self.invariant
+    (subst (λ d. IsTrue (takes_value d.dicts d.whole)) (sym c.self.view_is) c.requires) (IsInteger-decimal c.args.value c.ranges.value.fits) refl
+    c.in_ok-append_integer.ensures.ok c.after_value-self-inside.ensures refl).1
+    ∙ ap (λ d. with_value d (value_text (integer false (decimal c.args.value)))) c.self.view_is

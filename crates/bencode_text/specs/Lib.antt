@@ -1,0 +1,4 @@
+pub mod Bencode
+pub mod Draft
+pub mod Reading
+pub mod Writers
