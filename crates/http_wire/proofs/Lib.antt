@@ -1,0 +1,3 @@
+pub mod HeadLemmas
+pub mod WaitLemmas
+pub mod WatchLemmas
