@@ -31,7 +31,8 @@ pub fn take_out(peers: &mut Vec<Held>, who: &Endpoint)
 pub fn place_in(peers: &[Held], who: &Endpoint) -> Option<usize>
     ensures { result ≡ position (λ held. same_endpoint who.now held.who) peers.now }
 {
-    peers.iter().position(|held| *who == held.who)
+    // The parts, and not the endpoints as a whole: that comparison isn't inlined.
+    peers.iter().position(|held| who.addr == held.who.addr && who.port == held.who.port)
 }
 
 /// Whether the peer at a place, which is the endpoint's, is a seed.
