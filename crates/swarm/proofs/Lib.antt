@@ -1,0 +1,9 @@
+pub mod IndexLemmas
+pub mod ListLemmas
+pub mod Indexed
+pub mod PeerLemmas
+pub mod PlaceLemmas
+pub mod ChoiceLemmas
+pub mod ExpireLemmas
+pub mod TogetherLemmas
+pub mod FoundLemmas

@@ -1,0 +1,30 @@
+-- The endpoint stands where the index says.
+use Rattle.std.proofs.Common.{ℕ, List, sym, ◌∙◌, ap, subst, arith}
+use Rattle.std.proofs.Math.ListN.{set}
+use Rattle.std.proofs.lemmas.List.{length-map}
+use Rattle.std.proofs.lemmas.Option.{slice_get_within}
+use Rattle.ot_base.specs.declared.address.Endpoint.{Endpoint}
+use Rattle.age_ring.specs.Ring.{items_of}
+use Rattle.swarm.specs.Index.{IsIndexed, at_of, place_in}
+use Rattle.swarm.specs.Members.{peers_by}
+use Rattle.swarm.proofs.Indexed.{indexed_seed}
+use Rattle.swarm.proofs.PeerLemmas.{peers_renewed, first_at}
+use Rattle.swarm.proofs.changes.renew_at.Goals as goal
+
+pub renew-requires : goal.renew-requires
+renew-requires g c =
+    let here = c.requires.indexed.there c.args.who.now c.args.place.at (ap (λ o. at_of o) c.requires.known) in
+    omega (arith, slice_get_within (items_of c.args.ring.now.pairs) c.args.place.at c.args.who.now here, length-map c.args.ring.now.pairs (λ (p : Endpoint × ℕ). p.0))
+
+pub returns-clause-peers : goal.returns-clause-peers
+returns-clause-peers g c =
+    let ring = c.args.ring.now in
+    let here = c.requires.indexed.there c.args.who.now c.args.place.at (ap (λ o. at_of o) c.requires.known) in
+    let d : Endpoint × ℕ = (c.args.who.now, 0) in
+    ap (λ l. peers_by (place_in c.set_seed.new.self) l) (c.renew.ensures.pairs d ∙ ap (λ e. set ring.pairs c.args.place.at (e, ring.time)) (first_at ring.pairs c.args.place.at c.args.who.now d here))
+    ∙ peers_renewed (place_in c.args.index.now) (place_in c.set_seed.new.self) ring.pairs c.args.who.now c.args.place c.args.seed ring.time c.requires.indexed c.requires.known c.set_seed.ensures
+
+pub returns-clause-indexed : goal.returns-clause-indexed
+returns-clause-indexed g c =
+    let P : List Endpoint → Type 0 = λ l. IsIndexed l (place_in c.set_seed.new.self) in
+    subst P (sym c.renew.ensures.items) (indexed_seed (items_of c.args.ring.now.pairs) (place_in c.args.index.now) (place_in c.set_seed.new.self) c.args.who.now c.args.seed c.requires.indexed c.set_seed.ensures)

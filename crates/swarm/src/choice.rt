@@ -1,0 +1,58 @@
+//! Which peers an asker is told.
+
+ghost use Rattle.std.specs.Prelude.{◌≡◌, ◌<◌, ◌≤◌, [], IfSome, length, map, min, slice_index_or};
+ghost use Rattle.age_ring.specs.Ring.{items_of};
+ghost use Rattle.node_table.specs.declared.table.TheConstants.{MOST_NODES};
+ghost use Rattle.ot_base.specs.Address.{no_endpoint};
+ghost use Rattle.pick.specs.Picks.{picks};
+ghost use Rattle.swarm.specs.Peers.{place_past, without};
+
+use age_ring::AgeRing;
+use ot_base::{Endpoint, Peers};
+use pick::pick;
+
+/// Adds to an empty list the items that the words choose among those that don't stand at a place.
+pub fn choose_others(
+    ring: &AgeRing<Endpoint>,
+    place: Option<u32>,
+    want: u32,
+    words: &[u32; 200],
+    peers: &mut Peers,
+)
+    requires within { IfSome place (λ i. i < length ring.now.pairs) }
+    requires few { want ≤ 200 }
+    requires empty { peers.old ≡ [] }
+    ensures { let rest = without place (items_of ring.now.pairs) in
+        peers.new ≡ map (λ p. slice_index_or rest p no_endpoint)
+        (picks words.now (length rest) (min want (length rest))) }
+{
+    let others = others_count(ring, place);
+    let picks = pick(words, others, want.min(others));
+    for position in picks.as_slice() {
+        let i = passing_over(place, *position);
+        peers.push(ring.item(i));
+    }
+}
+
+/// How many items don't stand at a place.
+fn others_count(ring: &AgeRing<Endpoint>, place: Option<u32>) -> u32
+    requires { IfSome place (λ i. i < length ring.now.pairs) }
+    ensures count { result ≡ length (without place (items_of ring.now.pairs)) }
+    ensures most { result ≤ MOST_NODES }
+{
+    match place {
+        Some(_) => ring.len() - 1,
+        None => ring.len(),
+    }
+}
+
+/// Where an item stands that stands at a position among those that don't stand at a place.
+fn passing_over(place: Option<u32>, position: u32) -> u32
+    requires { position < MOST_NODES }
+    ensures { result ≡ place_past place position }
+{
+    match place {
+        Some(gap) if gap <= position => position + 1,
+        Some(_) | None => position,
+    }
+}

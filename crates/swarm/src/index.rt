@@ -1,0 +1,104 @@
+//! The index of one family's peers: where each endpoint stands, and whether it is a seed.
+
+use ot_base::Endpoint;
+use ot_base::laws::endpoints_in_order;
+use std::alloc::{AllocError, Global};
+use std::collections::BTreeMap;
+
+/// Where an endpoint stands in the order, and whether it is a seed.
+#[derive(Clone, Copy)]
+pub struct Place {
+    pub at: u32,
+    pub seed: bool,
+}
+
+/// The places by endpoint. Contracts see the place of each endpoint.
+#[derive(Drop)]
+pub struct Index {
+    places: BTreeMap<Endpoint, Place>,
+}
+
+impl Index {
+    ghost use Rattle.std.specs.Prelude.{◌≡◌, ◌<◌, OnOk, OnErr, Some, None};
+    ghost use Rattle.ot_base.specs.declared.address.Endpoint.{Endpoint};
+    ghost use Rattle.swarm.specs.Index.{Puts, place_in, at_place, seed_of, with_seed};
+    ghost use Rattle.swarm.specs.declared.index.Place.{Place};
+
+    /// An index of no endpoint, which takes no memory.
+    pub fn new(alloc: Global) -> Self
+        ensures { (e : Endpoint) → place_in result e ≡ None }
+    {
+        Index {
+            places: BTreeMap::new(alloc),
+        }
+    }
+
+    /// The place of an endpoint.
+    pub fn get(&self, who: &Endpoint) -> Option<Place>
+        ensures { result ≡ place_in self.now who.now }
+    {
+        endpoints_in_order();
+        self.places.get(who).copied()
+    }
+
+    /// Whether an endpoint is a seed.
+    pub fn is_seed(&self, who: &Endpoint) -> bool
+        ensures { result ≡ seed_of (place_in self.now who.now) }
+    {
+        match self.get(who) {
+            Some(place) => place.seed,
+            None => false,
+        }
+    }
+
+    /// Adds the place of a new endpoint. Want of memory changes nothing.
+    pub fn add(&mut self, who: Endpoint, place: Place) -> Result<(), AllocError>
+        ensures ok { OnOk result (Puts (place_in self.old) (place_in self.new) who (Some place)) }
+        ensures err { OnErr result ((e : Endpoint) → place_in self.new e ≡ place_in self.old e) }
+    {
+        endpoints_in_order();
+        self.places.insert(who, place)?;
+        Ok(())
+    }
+
+    /// Takes out an endpoint, with no memory, and tells whether it was a seed.
+    pub fn take(&mut self, who: &Endpoint) -> bool
+        ensures seed { result ≡ seed_of (place_in self.old who.now) }
+        ensures gone { Puts (place_in self.old) (place_in self.new) who.now None }
+    {
+        endpoints_in_order();
+        match self.places.remove(who) {
+            Some(place) => place.seed,
+            None => false,
+        }
+    }
+
+    /// Takes out all endpoints, and gives their memory back.
+    pub fn clear(&mut self)
+        ensures { (e : Endpoint) → place_in self.new e ≡ None }
+    {
+        self.places.clear();
+    }
+
+    /// Gives an endpoint another place in the order.
+    pub fn move_to(&mut self, who: &Endpoint, at: u32)
+        ensures { Puts (place_in self.old) (place_in self.new) who.now
+            (at_place at (place_in self.old who.now)) }
+    {
+        endpoints_in_order();
+        if let Some(place) = self.places.get_mut(who) {
+            place.at = at;
+        }
+    }
+
+    /// Sets whether an endpoint is a seed.
+    pub fn set_seed(&mut self, who: &Endpoint, seed: bool)
+        ensures { Puts (place_in self.old) (place_in self.new) who.now
+            (with_seed seed (place_in self.old who.now)) }
+    {
+        endpoints_in_order();
+        if let Some(place) = self.places.get_mut(who) {
+            place.seed = seed;
+        }
+    }
+}

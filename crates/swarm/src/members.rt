@@ -1,0 +1,238 @@
+//! The peers of one family.
+
+use crate::changes::{add_last, drop_due, one_if, remove_at, renew_at};
+use crate::choice::choose_others;
+use crate::index::Index;
+use age_ring::AgeRing;
+use node_table::Steps;
+use ot_base::{Endpoint, Held, Minute, Peers};
+use std::alloc::{AllocError, Global};
+use std::marker::Model;
+use std::sync::ledger::Ledger;
+
+/// A peer that wasn't heard of for so many minutes goes.
+pub const PEER_AGES: u32 = 45;
+
+/// How many peers of both families a swarm holds at most.
+pub const MOST_PEERS: u32 = 1_000_000;
+
+/// What putting a peer found.
+#[derive(Clone, Copy, Debug, PartialEq, Eq)]
+pub enum Put {
+    /// The endpoint is new, and stands last in its family's order.
+    Fresh,
+    /// The endpoint was held already, and keeps its place in the order.
+    Again {
+        /// Whether it was a seed before.
+        seed: bool,
+    },
+}
+
+/// The peers of one family in their order, with an index by endpoint and a running count of seeds.
+#[derive(Drop)]
+pub struct Members {
+    ring: AgeRing<Endpoint>,
+    index: Index,
+    seeds: u32,
+}
+
+impl Model for Members {
+    ghost use Rattle.swarm.specs.Index.{place_in};
+    ghost use Rattle.swarm.specs.Members.{HeldAt, AreKept, peers_by};
+
+    ghost Value = { HeldAt };
+
+    ghost view = { λ m. record {
+      peers = peers_by (place_in m.index) m.ring.pairs;
+      time = m.ring.time;
+    } };
+
+    ghost invariant = { λ m. AreKept m.ring (place_in m.index) m.seeds };
+}
+
+impl Members {
+    ghost use Rattle.std.specs.Prelude.{◌≡◌, ◌+◌, ◌*◌, ◌<◌, ◌≤◌, [], ◌⊎◌, All, true, IfOk, OnOk, OnErr, IfSome, IsSome, length, find, map, sum_by, slice_get, filter};
+    ghost use Rattle.std.specs.List.Sorted.{IsPermutation};
+    ghost use Rattle.age_ring.specs.Ring.{items_of, stamps_of};
+    ghost use Rattle.ot_base.specs.declared.peer.Held.{Held};
+    ghost use Rattle.swarm.specs.Members.{HeldAt, AreOrderly, Expires};
+    ghost use Rattle.swarm.specs.Peers.{is_of, is_young, place_of, put_peer, put_answer, without_peer};
+    ghost use Rattle.swarm.specs.Peers.{choice_of, endpoints_of, other_one, seed_one};
+
+    /// No peers, at a time. Of memory it takes four bytes for each age.
+    pub fn new(alloc: Global, time: u32) -> Result<Self, AllocError>
+        ensures peers { IfOk result (λ members. members.peers ≡ []) }
+        ensures time { IfOk result (λ members. members.time ≡ time) }
+    {
+        Ok(Members {
+            ring: AgeRing::new(alloc, PEER_AGES, time)?,
+            index: Index::new(alloc),
+            seeds: 0,
+        })
+    }
+
+    /// How many peers there are.
+    pub fn len(&self) -> u32
+        ensures len { result ≡ length self.now.peers }
+        ensures most { result ≤ MOST_PEERS }
+    {
+        self.ring.len()
+    }
+
+    /// How many of them are seeds.
+    pub fn seeds(&self) -> u32
+        ensures seeds { result ≡ sum_by seed_one self.now.peers }
+        ensures within { result ≤ length self.now.peers }
+        ensures most { length self.now.peers ≤ MOST_PEERS }
+    {
+        self.seeds
+    }
+
+    /// How many of them aren't.
+    pub fn leechers(&self) -> u32
+        ensures leechers { result ≡ sum_by other_one self.now.peers }
+        ensures within { result ≤ length self.now.peers }
+        ensures most { length self.now.peers ≤ MOST_PEERS }
+    {
+        self.ring.len() - self.seeds
+    }
+
+    /// The time of the last `advance`, or that at which it began.
+    pub fn time(&self) -> u32
+        ensures time { result ≡ self.now.time }
+        ensures orderly { AreOrderly self.now.time self.now.peers }
+    {
+        self.ring.time()
+    }
+
+    /// The ring, which has the endpoints in their order with their stamps.
+    pub fn ring(&self) -> &AgeRing<Endpoint>
+        ensures items { items_of result.now.pairs ≡ endpoints_of self.now.peers }
+        ensures stamps { stamps_of result.now.pairs ≡ map (λ peer. peer.stamp.0) self.now.peers }
+        ensures time { result.now.time ≡ self.now.time }
+        ensures ages { result.now.ages ≡ PEER_AGES }
+    {
+        &self.ring
+    }
+
+    /// The peer at a place.
+    pub fn at(&self, i: u32) -> Held
+        requires { i < length self.now.peers }
+        ensures { slice_get self.now.peers i ≡ Some result }
+    {
+        let who = self.ring.item(i);
+        let seed = self.index.is_seed(&who);
+        Held {
+            who,
+            seed,
+            stamp: Minute(self.ring.stamp(i)),
+        }
+    }
+
+    /// The place of an endpoint.
+    pub fn place(&self, who: &Endpoint) -> Option<u32>
+        ensures { result ≡ place_of who.now self.now.peers }
+    {
+        let place = self.index.get(who)?;
+        Some(place.at)
+    }
+
+    /// Adds a peer, or renews it. Want of memory changes nothing.
+    pub fn put<L: Ledger>(
+        &mut self,
+        who: Endpoint,
+        seed: bool,
+        steps: &mut Steps<L>,
+    ) -> Result<Put, AllocError>
+        requires { IsSome (place_of who self.old.peers) ⊎ (length self.old.peers < MOST_PEERS) }
+        ensures peers { OnOk result (self.new.peers ≡
+            put_peer (record { who = who; seed = seed; stamp = record { 0 = self.old.time } })
+            self.old.peers) }
+        ensures answer { IfOk result (λ put. put ≡ put_answer (find (is_of who) self.old.peers)) }
+        ensures err { OnErr result (self.new ≡ self.old) }
+        ensures fresh { OnErr result (place_of who self.old.peers ≡ None) }
+        ensures time { self.new.time ≡ self.old.time }
+        ensures steps { steps.new ≤ steps.old + 32 }
+    {
+        match self.index.get(&who) {
+            Some(place) => {
+                let stood = place.seed;
+                renew_at(&mut self.ring, &mut self.index, &who, place, seed, steps);
+                self.seeds = self.seeds + one_if(seed) - one_if(stood);
+                Ok(Put::Again { seed: stood })
+            }
+            None => {
+                add_last(&mut self.ring, &mut self.index, who, seed, steps)?;
+                self.seeds += one_if(seed);
+                Ok(Put::Fresh)
+            }
+        }
+    }
+
+    /// Takes out the peer of an endpoint, with no memory: the last one moves into its place.
+    pub fn take<L: Ledger>(&mut self, who: &Endpoint, steps: &mut Steps<L>) -> Option<Held>
+        ensures peers { self.new.peers ≡ without_peer who.now self.old.peers }
+        ensures taken { result ≡ find (is_of who.now) self.old.peers }
+        ensures time { self.new.time ≡ self.old.time }
+        ensures steps { steps.new ≤ steps.old + 32 }
+    {
+        let place = self.index.get(who)?;
+        let held = remove_at(&mut self.ring, &mut self.index, place.at, steps);
+        self.seeds -= one_if(held.seed);
+        Some(held)
+    }
+
+    /// Moves the time on. Peers that weren't heard of for 45 minutes or more go, and no others.
+    pub fn advance<L: Ledger>(&mut self, time: u32, steps: &mut Steps<L>)
+        requires { self.old.time ≤ time }
+        ensures expires { Expires time self.old.peers self.new.peers }
+        ensures young { All (λ peer. is_young time peer ≡ true) self.new.peers }
+        ensures time { self.new.time ≡ time }
+        ensures steps { steps.new + 32 * length self.new.peers ≤
+            steps.old + 32 * length self.old.peers }
+    {
+        let start = self.ring.time();
+        for minute in 0..(time - start).min(PEER_AGES) {
+            self.pass_to(start + minute + 1, steps);
+        }
+        self.pass_to(time, steps);
+        self.release();
+    }
+
+    /// The same, at the cost of a look at each minute for each peer that goes.
+    fn pass_to<L: Ledger>(&mut self, time: u32, steps: &mut Steps<L>)
+        requires { self.old.time ≤ time }
+        ensures expires { Expires time self.old.peers self.new.peers }
+        ensures young { All (λ peer. is_young time peer ≡ true) self.new.peers }
+        ensures time { self.new.time ≡ time }
+        ensures steps { steps.new + 32 * length self.new.peers ≤
+            steps.old + 32 * length self.old.peers }
+    {
+        self.seeds -= drop_due(&mut self.ring, &mut self.index, time, steps);
+        self.ring.advance(time, steps);
+    }
+
+    /// Gives memory back where a third of the room or more is spare: at least a sixth of the peers
+    /// that the room was made for have left it, so it doesn't come and go with a few peers.
+    fn release(&mut self)
+        ensures { self.new ≡ self.old }
+    {
+        let len = self.ring.len();
+        if len == 0 {
+            self.index.clear();
+            self.ring.shrink();
+        } else if self.ring.spare() > len / 2 + 8 {
+            self.ring.shrink();
+        }
+    }
+
+    /// Adds to an empty list the endpoints that the words choose among those but the asker's.
+    pub fn choose(&self, asker: &Endpoint, want: u32, words: &[u32; 200], peers: &mut Peers)
+        requires few { want ≤ 200 }
+        requires empty { peers.old ≡ [] }
+        ensures { peers.new ≡ choice_of words.now asker.now want self.now.peers }
+    {
+        let place = self.place(asker);
+        choose_others(&self.ring, place, want, words, peers);
+    }
+}
