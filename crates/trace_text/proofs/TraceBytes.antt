@@ -58,23 +58,23 @@ take-counted bytes [] room fits (inr none) = rw append-nil (take_all room bytes 
 take-counted bytes (b ∷ more) room fits (inr none) = absurd (omega arith)
 
 -- as many bytes count as there are, or as there is room for
-full_or_all : (digits len more : ℕ) → digits % 2 ≡ 0 → len ≡ min (digits / 2) 2048 → digits ≡ 2 * len + 2 * more
-    → (len ≡ 2048) ⊎ (more ≡ 0)
-full_or_all digits len more even is sum =
-    elim (cases_eq len 2048) [ inl full ↦ inl full | inr other ↦ inr (omega arith) ]
+full_or_all : (digits len more most : ℕ) → digits % 2 ≡ 0 → len ≡ min (digits / 2) most → digits ≡ 2 * len + 2 * more
+    → (len ≡ most) ⊎ (more ≡ 0)
+full_or_all digits len more most even is sum =
+    elim (cases_eq len most) [ inl full ↦ inl full | inr other ↦ inr (omega arith) ]
 
 -- what a text decoded to, by the bytes that count
-counted_of-whole : (hex bytes more : List ℕ) → length hex % 2 ≡ 0 → length bytes ≡ min (length hex / 2) 2048
-    → length hex ≡ 2 * length bytes + 2 * length more → decode_of hex ≡ Ok (bytes ++ more) → counted_of (decode_of hex) ≡ Ok bytes
-counted_of-whole hex bytes more even is sum whole =
-    let small : length bytes ≤ 2048 = omega arith in
-    rw whole (ap Ok (take-counted bytes more 2048 small (full_or_all (length hex) (length bytes) (length more) even is sum)))
+counted_of-whole : (hex bytes more : List ℕ) (most : ℕ) → length hex % 2 ≡ 0 → length bytes ≡ min (length hex / 2) most
+    → length hex ≡ 2 * length bytes + 2 * length more → decode_of hex ≡ Ok (bytes ++ more) → counted_of most (decode_of hex) ≡ Ok bytes
+counted_of-whole hex bytes more most even is sum whole =
+    let small : length bytes ≤ most = omega arith in
+    rw whole (ap Ok (take-counted bytes more most small (full_or_all (length hex) (length bytes) (length more) most even is sum)))
 
 -- the digits of the bytes that count decode into their room, and digits follow: those bytes are what counts
-pub counted_of-read : (hex bytes : List ℕ) (len : ℕ) → length hex % 2 ≡ 0 → len ≡ min (length hex / 2) 2048
+pub counted_of-read : (hex bytes : List ℕ) (len most : ℕ) → length hex % 2 ≡ 0 → len ≡ min (length hex / 2) most
     → decode_sized (take (2 * len) hex) len ≡ Ok bytes → list_all is_hex_digit (drop (2 * len) hex) ≡ true
-    → (counted_of (decode_of hex) ≡ Ok bytes) × (length bytes ≡ len)
-counted_of-read hex bytes len even is read digits =
+    → (counted_of most (decode_of hex) ≡ Ok bytes) × (length bytes ≡ len)
+counted_of-read hex bytes len most even is read digits =
     let front = length-take (2 * len) hex in
     let back = length-drop (2 * len) hex in
     let front_even : length (take (2 * len) hex) % 2 ≡ 0 = omega arith in
@@ -85,14 +85,14 @@ counted_of-read hex bytes len even is read digits =
     let all = AllPass-from_list_all is_hex_digit (drop (2 * len) hex) digits in
     let parts = decode_of-parts hex bytes (2 * len) even front_even (omega arith) pairs all in
     let more = parts.2 in
-    (counted_of-whole hex bytes parts.0 even (omega arith) (omega arith) parts.1, size_is)
+    (counted_of-whole hex bytes parts.0 most even (omega arith) (omega arith) parts.1, size_is)
 
 -- the same, where more stands after those bytes in their buffer
-pub counted_of-in : (hex bytes after : List ℕ) (len : ℕ) → length hex % 2 ≡ 0 → len ≡ min (length hex / 2) 2048
+pub counted_of-in : (hex bytes after : List ℕ) (len most : ℕ) → length hex % 2 ≡ 0 → len ≡ min (length hex / 2) most
     → decode_sized (take (2 * len) hex) len ≡ Ok bytes → list_all is_hex_digit (drop (2 * len) hex) ≡ true
-    → counted_of (decode_of hex) ≡ Ok (take len (bytes ++ after))
-counted_of-in hex bytes after len even is read digits =
-    let counted = counted_of-read hex bytes len even is read digits in
+    → counted_of most (decode_of hex) ≡ Ok (take len (bytes ++ after))
+counted_of-in hex bytes after len most even is read digits =
+    let counted = counted_of-read hex bytes len most even is read digits in
     let all : len ≤ length bytes = omega arith in
     let fits : length bytes ≤ len = omega arith in
     counted.0 ∙ ap Ok (sym (take-append-le len bytes after all ∙ take_all len bytes fits))
@@ -109,14 +109,14 @@ undecoded-from (Ok bytes) r out e h err = cc
 undecoded-from (Err d) r out e h err = cc
 
 -- a text that doesn't decode
-refused-from : (r : Result (List ℕ) FromHexError) → ((bytes : List ℕ) → r ≡ Ok bytes → ⊥) → counted_of r ≡ Err Hex
-refused-from (Ok bytes) never = absurd (never bytes refl)
-refused-from (Err e) never = refl
+refused-from : (most : ℕ) (r : Result (List ℕ) FromHexError) → ((bytes : List ℕ) → r ≡ Ok bytes → ⊥) → counted_of most r ≡ Err Hex
+refused-from most (Ok bytes) never = absurd (never bytes refl)
+refused-from most (Err e) never = refl
 
 -- a bad digit among those of the bytes that count
-pub counted_of-bad : (hex : List ℕ) (len : ℕ) (e : FromHexError) → length hex % 2 ≡ 0 → len ≡ min (length hex / 2) 2048
-    → decode_sized (take (2 * len) hex) len ≡ Err e → counted_of (decode_of hex) ≡ Err Hex
-counted_of-bad hex len e even is bad =
+pub counted_of-bad : (hex : List ℕ) (len most : ℕ) (e : FromHexError) → length hex % 2 ≡ 0 → len ≡ min (length hex / 2) most
+    → decode_sized (take (2 * len) hex) len ≡ Err e → counted_of most (decode_of hex) ≡ Err Hex
+counted_of-bad hex len most e even is bad =
     let front = length-take (2 * len) hex in
     let front_even : length (take (2 * len) hex) % 2 ≡ 0 = omega arith in
     let half : length (take (2 * len) hex) / 2 ≡ len = omega arith in
@@ -126,10 +126,10 @@ counted_of-bad hex len e even is bad =
     rw whole refl
 
 -- a bad digit after them
-pub counted_of-bad_later : (hex : List ℕ) (place : ℕ) → list_all is_hex_digit (drop place hex) ≡ false
-    → counted_of (decode_of hex) ≡ Err Hex
-counted_of-bad_later hex place bad =
-    refused-from (decode_of hex) (λ bytes ok.
+pub counted_of-bad_later : (hex : List ℕ) (place most : ℕ) → list_all is_hex_digit (drop place hex) ≡ false
+    → counted_of most (decode_of hex) ≡ Err Hex
+counted_of-bad_later hex place most bad =
+    refused-from most (decode_of hex) (λ bytes ok.
     let all = list_all-from_AllPass is_hex_digit hex (decode_of-ok hex bytes ok).1 in
     let cut = list_all-append is_hex_digit (take place hex) (drop place hex) in
     let both = sym (rw (take-append-drop place hex) at cut) ∙ all in

@@ -7,7 +7,7 @@ use Rattle.std.proofs.lemmas.List.{take-append-drop, drop_more, get_or-take, get
 use Rattle.std.proofs.lemmas.List.Splits.{slice_split_at, slice_split_none, length-slice_split}
 use Rattle.memchr.specs.Find.{IsFirstByte, is_byte}
 use Rattle.ot_base.specs.declared.fault.TraceFault.TheVariants.{Form}
-use Rattle.trace_text.specs.Trace.{fields_record, parts_of}
+use Rattle.trace_text.specs.Trace.{fields_line, parts_of}
 
 -- a text in which the separator doesn't stand is one part
 pub parts_of-none : (separator : ℕ) (text : List ℕ) → IsFirstByte (is_byte separator) text None
@@ -47,10 +47,10 @@ parts_of-many separator text first rest second rest' third rest'' fourth more e1
     omega arith
 
 -- a cleaner's record has no further field
-pub fields_record-cleaner : (time : List ℕ) (more : List (List ℕ)) → 0 < length more
-    → fields_record (codes "C" ∷ time ∷ more) ≡ Err Form
-fields_record-cleaner time [] h = absurd (omega arith)
-fields_record-cleaner time (a ∷ []) h = refl
-fields_record-cleaner time (a ∷ b ∷ []) h = refl
-fields_record-cleaner time (a ∷ b ∷ c ∷ []) h = refl
-fields_record-cleaner time (a ∷ b ∷ c ∷ d ∷ more) h = refl
+pub fields_line-cleaner : (time : List ℕ) (more : List (List ℕ)) → 0 < length more
+    → fields_line (codes "C" ∷ time ∷ more) ≡ Err Form
+fields_line-cleaner time [] h = absurd (omega arith)
+fields_line-cleaner time (a ∷ []) h = refl
+fields_line-cleaner time (a ∷ b ∷ []) h = refl
+fields_line-cleaner time (a ∷ b ∷ c ∷ []) h = refl
+fields_line-cleaner time (a ∷ b ∷ c ∷ d ∷ more) h = refl

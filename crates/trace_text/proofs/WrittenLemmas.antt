@@ -14,8 +14,11 @@ use Rattle.hex.specs.Hex.{IsBytes, is_hex_digit, encode_lower, decode_of}
 use Rattle.hex.proofs.HexLemmas.{decode_of-encode_lower, decode_of-ok}
 use Rattle.ot_base.specs.declared.address.Addr.{Addr}
 use Rattle.ot_base.specs.declared.address.Addr.TheVariants.{V4, V6}
-use Rattle.trace_text.specs.Trace.{Record, parts_of, number_of, seconds_of, port_of, has_leading_zero, octet_of, is_six, address_of, fields_record, line_of}
-use Rattle.trace_text.specs.Written.{IsWhole, dotted_text, text_of}
+use Rattle.ot_base.specs.declared.address.Endpoint.{Endpoint}
+use Rattle.trace_text.specs.Trace.{parts_of, number_of, seconds_of, port_of, has_leading_zero, octet_of, is_six, address_of, arrival_of, fields_line, line_of}
+use Rattle.trace_text.specs.Written.{IsArrival, IsOfFour, AllCount, dotted_text, five_fields, text_of}
+use Rattle.trace_text.specs.declared.line.TraceLine.{TraceLine}
+use Rattle.trace_text.specs.declared.line.TraceLine.TheVariants.{Udp, Http}
 
 -- the digits of a number
 all_digits : (n : ℕ) → n < 2 ^ 64 → (i : ℕ) → i < length (decimal n) → (48 ≤ get_or (decimal n) i 0) × (get_or (decimal n) i 0 ≤ 57)
@@ -134,39 +137,60 @@ hex_again bytes all =
           ne_eqb _ 32 (λ e. let digit = digits k d lt in let space : is_hex_digit 32 ≡ true = subst (λ c. is_hex_digit c ≡ true) e digit in cc);
     }
 
--- a line with each field before the rest
-line_text : (seconds port : ℕ) (address hex : List ℕ)
-    → codes "U " ++ decimal seconds ++ codes " " ++ address ++ codes " " ++ decimal port ++ codes " " ++ hex
-    ≡ codes "U " ++ (decimal seconds ++ (32 ∷ (address ++ (32 ∷ (decimal port ++ (32 ∷ hex))))))
-line_text seconds port address hex = simp append_assoc
-
 -- the fields of a written line
-text_parts : (seconds port : ℕ) (octets bytes : List ℕ) → seconds < 2 ^ 64 → port < 2 ^ 16 → AddressText octets → HexText bytes
-    → (let r : Record = record { seconds = seconds; from = record { addr = V4 octets; port = port }; bytes = bytes } in
-    parts_of 32 (text_of r) ≡ codes "U" ∷ decimal seconds ∷ dotted_text octets ∷ decimal port ∷ encode_lower bytes ∷ [])
-text_parts seconds port octets bytes hs hp address hex =
+record FieldsText (kind : List ℕ) (seconds : ℕ) (from : Endpoint) (bytes : List ℕ) : Type 0 where
+  time : List ℕ
+  address : List ℕ
+  port : List ℕ
+  hex : List ℕ
+  parts : parts_of 32 (five_fields kind seconds from bytes) ≡ kind ∷ time ∷ address ∷ port ∷ hex ∷ []
+  read : (most : ℕ) → length bytes ≤ most
+      → arrival_of most time address port hex ≡ Ok (record { seconds = seconds; from = from; bytes = bytes })
+
+-- a line with each field before the rest
+fields_before : (seconds port : ℕ) (kind address hex : List ℕ)
+    → kind ++ codes " " ++ decimal seconds ++ codes " " ++ address ++ codes " " ++ decimal port ++ codes " " ++ hex
+    ≡ kind ++ (32 ∷ (decimal seconds ++ (32 ∷ (address ++ (32 ∷ (decimal port ++ (32 ∷ hex)))))))
+fields_before seconds port kind address hex = simp append_assoc
+
+fields_parts : (seconds port : ℕ) (kind octets bytes : List ℕ) → All (λ b. (b == 32) ≡ false) kind → seconds < 2 ^ 64 → port < 2 ^ 16 → AddressText octets → HexText bytes
+    → parts_of 32 (five_fields kind seconds (record { addr = V4 octets; port = port }) bytes)
+    ≡ kind ∷ decimal seconds ∷ dotted_text octets ∷ decimal port ∷ encode_lower bytes ∷ []
+fields_parts seconds port kind octets bytes letters hs hp address hex =
     let no_space : (n : ℕ) → n < 2 ^ 64 → All (λ x. (x == 32) ≡ false) (decimal n) = λ n h. digits_other 32 n (omega arith) h in
-    let hex_part = last_part 32 (encode_lower bytes) hex.other in
-    let port_part = part 32 (decimal port) (encode_lower bytes) refl (no_space port (omega arith)) in
-    let address_part = part 32 (dotted_text octets) (decimal port ++ (32 ∷ encode_lower bytes)) refl address.other in
-    let seconds_part = part 32 (decimal seconds) (dotted_text octets ++ (32 ∷ (decimal port ++ (32 ∷ encode_lower bytes)))) refl (no_space seconds hs) in
-    ap (parts_of 32) (line_text seconds port (dotted_text octets) (encode_lower bytes))
-    ∙ ap (λ l. codes "U" ∷ l) (seconds_part
-    ∙ ap (λ l. decimal seconds ∷ l) (address_part
-    ∙ ap (λ l. dotted_text octets ∷ l) (port_part
-    ∙ ap (λ l. decimal port ∷ l) hex_part)))
+    let after_port = 32 ∷ encode_lower bytes in
+    let after_address = 32 ∷ (decimal port ++ after_port) in
+    let after_seconds = 32 ∷ (dotted_text octets ++ after_address) in
+    ap (parts_of 32) (fields_before seconds port kind (dotted_text octets) (encode_lower bytes))
+    ∙ part 32 kind (decimal seconds ++ after_seconds) refl letters
+    ∙ ap (λ l. kind ∷ l) (part 32 (decimal seconds) (dotted_text octets ++ after_address) refl (no_space seconds hs)
+    ∙ ap (λ l. decimal seconds ∷ l) (part 32 (dotted_text octets) (decimal port ++ after_port) refl address.other
+    ∙ ap (λ l. dotted_text octets ∷ l) (part 32 (decimal port) (encode_lower bytes) refl (no_space port (omega arith))
+    ∙ ap (λ l. decimal port ∷ l) (last_part 32 (encode_lower bytes) hex.other))))
 
-fields_again : (seconds port : ℕ) (octets bytes : List ℕ) → seconds < 2 ^ 64 → port < 2 ^ 16 → AddressText octets → HexText bytes
-    → length bytes ≤ 2048 → (let r : Record = record { seconds = seconds; from = record { addr = V4 octets; port = port }; bytes = bytes } in line_of (text_of r) ≡ Ok r)
-fields_again seconds port octets bytes hs hp address hex few =
-    ap fields_record (text_parts seconds port octets bytes hs hp address hex)
-    ∙ rw (seconds_again seconds hs, address.read, port_again port hp, hex.read, take_all 2048 bytes few) refl
+four_fields_again : (kind : List ℕ) (seconds port : ℕ) (addr : Addr) (bytes : List ℕ) → All (λ b. (b == 32) ≡ false) kind
+    → (let from : Endpoint = record { addr = addr; port = port } in IsArrival seconds from bytes → FieldsText kind seconds from bytes)
+four_fields_again kind seconds port (V4 octets) bytes letters h =
+    let address = address_again octets h.address_of_four.0 h.address_of_four.1 in
+    let hex = hex_again bytes h.bytes_of_8_bits in
+    record {
+      time = decimal seconds;
+      address = dotted_text octets;
+      port = decimal port;
+      hex = encode_lower bytes;
+      parts = fields_parts seconds port kind octets bytes letters h.seconds_of_64_bits h.port_of_16_bits address hex;
+      read = λ most few. rw (seconds_again seconds h.seconds_of_64_bits, address.read, port_again port h.port_of_16_bits, hex.read, take_all most bytes few) refl;
+    }
+four_fields_again kind seconds port (V6 address) bytes letters h = absurd h.address_of_four
 
-four_line_again : (seconds port : ℕ) (addr : Addr) (bytes : List ℕ) → (let r : Record = record { seconds = seconds; from = record { addr = addr; port = port }; bytes = bytes } in IsWhole r → line_of (text_of r) ≡ Ok r)
-four_line_again seconds port (V4 octets) bytes h =
-    fields_again seconds port octets bytes h.seconds_of_64_bits h.port_of_16_bits (address_again octets h.address_of_four.0 h.address_of_four.1)
-    (hex_again bytes h.bytes_of_8_bits) h.all_count
-four_line_again seconds port (V6 address) bytes h = absurd h.address_of_four
+-- what was written of something that came is read again
+fields_again : (kind : List ℕ) (seconds : ℕ) (from : Endpoint) (bytes : List ℕ) → All (λ b. (b == 32) ≡ false) kind → IsArrival seconds from bytes → FieldsText kind seconds from bytes
+fields_again kind seconds from bytes letters h = four_fields_again kind seconds from.port from.addr bytes letters h
 
-pub line_again : (r : Record) → IsWhole r → line_of (text_of r) ≡ Ok r
-line_again r h = four_line_again r.seconds r.from.port r.from.addr r.bytes h
+pub line_again : (line : TraceLine) → IsOfFour line → AllCount line → line_of (text_of line) ≡ Ok line
+line_again (Udp seconds from bytes) h few =
+    let again = fields_again (codes "U") seconds from bytes (All-cons (λ x. (x == 32) ≡ false) 85 [] refl (λ i d lt. absurd (omega arith))) h in
+    ap fields_line again.parts ∙ rw (again.read 2048 few) refl
+line_again (Http seconds from bytes) h few =
+    let again = fields_again (codes "H") seconds from bytes (All-cons (λ x. (x == 32) ≡ false) 72 [] refl (λ i d lt. absurd (omega arith))) h in
+    ap fields_line again.parts ∙ rw (again.read 8192 few) refl

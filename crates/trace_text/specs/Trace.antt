@@ -1,5 +1,5 @@
 -- One line of a trace: what it records, or the fault of its first bad part.
-use Rattle.std.specs.Prelude.{ℕ, ◌-◌, ◌^◌, ◌==◌, ◌&&◌, nat_lt, nat_le, Bool, if◌then◌else◌, List, [], ◌∷◌, length, take, slice_index, codes, Option, Some, None, Result, Ok, Err}
+use Rattle.std.specs.Prelude.{ℕ, ◌-◌, ◌^◌, ◌≡◌, ◌≤◌, ◌==◌, ◌&&◌, nat_lt, nat_le, Bool, if◌then◌else◌, List, [], ◌∷◌, length, take, slice_index, codes, Option, Some, None, Result, Ok, Err}
 use Rattle.std.specs.Char.{is_ascii_digit}
 use Rattle.std.specs.List.{slice_split, list_all}
 use Rattle.std.specs.Option.{ok_or}
@@ -7,16 +7,21 @@ use Rattle.std.specs.Str.{bytes_eq}
 use Rattle.std.specs.Str.Parse.{digits_value}
 use Rattle.hex.specs.Hex.{decode_of, is_hex_digit}
 use Rattle.hex.specs.declared.error.FromHexError.{FromHexError}
+use Rattle.ot_base.specs.Address.{family_of}
 use Rattle.ot_base.specs.declared.address.Addr.{Addr}
 use Rattle.ot_base.specs.declared.address.Addr.TheVariants.{V4}
 use Rattle.ot_base.specs.declared.address.Endpoint.{Endpoint}
+use Rattle.ot_base.specs.declared.address.Family.TheVariants.{Four}
 use Rattle.ot_base.specs.declared.fault.TraceFault.{TraceFault}
 use Rattle.ot_base.specs.declared.fault.TraceFault.TheVariants.{Form, Number, Hex, Address, Unbuilt}
-use Rattle.trace_text.specs.declared.datagram.Datagram.{Datagram}
+use Rattle.trace_text.specs.declared.line.TraceLine.{TraceLine}
+use Rattle.trace_text.specs.declared.line.TraceLine.TheVariants.{Udp, Http}
+use Rattle.trace_text.specs.declared.records.Received.{Received}
+use Rattle.trace_text.specs.declared.records.Record.{Record}
+use Rattle.trace_text.specs.declared.records.Record.TheVariants.{Datagram, Connection}
 
--- a datagram that a line records: the second at which it came, from whom, and those of its bytes
--- that count
-pub record Record : Type 0 where
+-- something that came: the second, from whom, and those of its bytes that count
+pub record Arrival : Type 0 where
   pub seconds : ℕ
   pub from : Endpoint
   pub bytes : List ℕ
@@ -74,38 +79,71 @@ is_six text = (length text == 32) && list_all is_hex_digit text
 abbrev pub address_of : List ℕ → Result Addr TraceFault
 address_of text = if is_six text then Err Unbuilt else dotted_of (parts_of 46 text)
 
--- the first 2,048 of the bytes that a text decoded to
-abbrev pub counted_of : Result (List ℕ) FromHexError → Result (List ℕ) TraceFault
-counted_of (Ok bytes) = Ok (take 2048 bytes)
-counted_of (Err e) = Err Hex
+-- those of the bytes that a text decoded to that count: the first `most`
+abbrev pub counted_of : ℕ → Result (List ℕ) FromHexError → Result (List ℕ) TraceFault
+counted_of most (Ok bytes) = Ok (take most bytes)
+counted_of most (Err e) = Err Hex
 
--- what the fields after a `U` record, judged from left to right
-abbrev pub datagram_of : List ℕ → List ℕ → List ℕ → List ℕ → Result Record TraceFault
-datagram_of time address port hex = do
+-- what the fields after the kind say of something that came, judged from left to right
+abbrev pub arrival_of : ℕ → List ℕ → List ℕ → List ℕ → List ℕ → Result Arrival TraceFault
+arrival_of most time address port hex = do
   seconds ← seconds_of time
   addr ← address_of address
   port ← port_of port
-  bytes ← counted_of (decode_of hex)
+  bytes ← counted_of most (decode_of hex)
   Ok (record { seconds = seconds; from = record { addr = addr; port = port }; bytes = bytes })
 
--- what the fields of a line record; of the other kinds of records none is answered yet
-abbrev pub fields_record : List (List ℕ) → Result Record TraceFault
-fields_record (kind ∷ time ∷ address ∷ port ∷ hex ∷ []) =
+-- a datagram that came, and what came on a connection until its end
+abbrev pub datagram_line : Arrival → TraceLine
+datagram_line arrival = Udp arrival.seconds arrival.from arrival.bytes
+
+abbrev pub connection_line : Arrival → TraceLine
+connection_line arrival = Http arrival.seconds arrival.from arrival.bytes
+
+-- of a datagram the first 2,048 bytes count
+abbrev pub datagram_of : List ℕ → List ℕ → List ℕ → List ℕ → Result TraceLine TraceFault
+datagram_of time address port hex = do
+  arrival ← arrival_of 2048 time address port hex
+  Ok (datagram_line arrival)
+
+-- of what comes on a connection the first 8,192 bytes count
+abbrev pub connection_of : List ℕ → List ℕ → List ℕ → List ℕ → Result TraceLine TraceFault
+connection_of time address port hex = do
+  arrival ← arrival_of 8192 time address port hex
+  Ok (connection_line arrival)
+
+-- what the fields of a line record; a round of the cleaner isn't answered yet
+abbrev pub fields_line : List (List ℕ) → Result TraceLine TraceFault
+fields_line (kind ∷ time ∷ address ∷ port ∷ hex ∷ []) =
     if bytes_eq kind (codes "U") then datagram_of time address port hex
-    else if bytes_eq kind (codes "H") then Err Unbuilt
+    else if bytes_eq kind (codes "H") then connection_of time address port hex
     else Err Form
-fields_record (kind ∷ time ∷ []) = if bytes_eq kind (codes "C") then Err Unbuilt else Err Form
-fields_record fields = Err Form
+fields_line (kind ∷ time ∷ []) = if bytes_eq kind (codes "C") then Err Unbuilt else Err Form
+fields_line fields = Err Form
 
 -- what a line records, its fields cut at each space (32)
-abbrev pub line_of : List ℕ → Result Record TraceFault
-line_of line = fields_record (parts_of 32 line)
+abbrev pub line_of : List ℕ → Result TraceLine TraceFault
+line_of line = fields_line (parts_of 32 line)
 
--- a datagram that was read, with these bytes
-abbrev pub record_with : Datagram → List ℕ → Record
-record_with datagram bytes =
-    record { seconds = datagram.seconds; from = datagram.from; bytes = bytes }
+-- something that was read, its bytes at the front of a buffer
+abbrev pub arrival_in : Received → List ℕ → Arrival
+arrival_in received buffer = record {
+  seconds = received.seconds;
+  from = received.from;
+  bytes = take received.len buffer;
+}
 
--- a datagram that was read, its bytes at the front of a buffer
-abbrev pub record_in : Datagram → List ℕ → Record
-record_in datagram buffer = record_with datagram (take datagram.len buffer)
+-- what the record that was read says, its bytes at the front of a buffer
+abbrev pub line_in : Record → List ℕ → TraceLine
+line_in (Datagram received) buffer = datagram_line (arrival_in received buffer)
+line_in (Connection received) buffer = connection_line (arrival_in received buffer)
+
+-- it came from an IPv4 address
+abbrev pub IsFromFour : Record → Type 0
+IsFromFour (Datagram received) = family_of received.from.addr ≡ Four
+IsFromFour (Connection received) = family_of received.from.addr ≡ Four
+
+-- it has no more bytes than count of its kind
+abbrev pub IsWithinLimit : Record → Type 0
+IsWithinLimit (Datagram received) = received.len ≤ 2048
+IsWithinLimit (Connection received) = received.len ≤ 8192

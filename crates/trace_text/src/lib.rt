@@ -2,13 +2,13 @@
 //! them.
 #![tactic(auto)]
 
-mod datagram;
 mod fields;
 pub mod laws;
 mod line;
 mod parts;
+mod records;
 #[cfg(test)]
 mod tests;
 
-pub use datagram::{DATAGRAM_BYTES, Datagram, read_datagram};
 pub use line::{TraceLine, read_line, write_line};
+pub use records::{DATAGRAM_BYTES, RECORD_BYTES, Received, Record, read_record};

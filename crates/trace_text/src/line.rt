@@ -1,11 +1,11 @@
 //! A line of a trace as a value.
 
-ghost use Rattle.std.specs.Prelude.{◌≡◌, ◌≤◌, ◌++◌, ◌⊎◌, length, codes, decimal, IsOk, IfOk, IfErr, OnOk};
-ghost use Rattle.trace_text.specs.Trace.{line_of};
-ghost use Rattle.trace_text.specs.Written.{line_record, address_text, dotted_text, text_of};
+ghost use Rattle.std.specs.Prelude.{◌≡◌, ◌≤◌, ◌++◌, ◌⊎◌, length, take, codes, decimal, IsOk, IfOk, IfErr, OnOk};
+ghost use Rattle.trace_text.specs.Trace.{line_of, line_in, IsWithinLimit};
+ghost use Rattle.trace_text.specs.Written.{address_text, dotted_text, five_fields, text_of, AllCount};
 ghost use Rattle.hex.specs.Hex.{encode_lower};
 
-use crate::datagram::{DATAGRAM_BYTES, read_datagram};
+use crate::records::{RECORD_BYTES, Record, read_record};
 use itoa::Buffer;
 use ot_base::{Addr, Bytes, Endpoint, TraceFault};
 use std::alloc::{AllocError, Global};
@@ -22,49 +22,85 @@ pub enum TraceLine {
         /// Those of its bytes that count, the first 2,048 at most.
         bytes: Bytes,
     },
+    /// All that one TCP connection sends before it ends, by which HTTP is spoken.
+    Http {
+        /// When its first byte came, in seconds.
+        seconds: u64,
+        /// From whom it came.
+        from: Endpoint,
+        /// Those of its bytes that count, the first 8,192 at most.
+        bytes: Bytes,
+    },
 }
 
 /// Reads a line, given without the byte 0x0A at its end. The form of a line, and the faults, are
-/// those of `read_datagram`.
+/// those of `read_record`.
 ///
 /// # Errors
 ///
-/// `NoMemory` where the line is good, and there was no memory for the datagram's bytes; otherwise
-/// the fault of the first bad part, as `read_datagram` names it.
+/// `NoMemory` where the line is good, and there was no memory for the record's bytes; otherwise the
+/// fault of the first bad part, as `read_record` names it.
 pub fn read_line(alloc: Global, line: &[u8]) -> Result<TraceLine, TraceFault>
-    ensures read { IfOk result (λ read. line_of line.now ≡ Ok (line_record read)) }
+    ensures read { IfOk result (λ read. line_of line.now ≡ Ok read) }
+    ensures counted { IfOk result (λ read. AllCount read) }
     ensures refused { IfErr result (λ fault.
         (line_of line.now ≡ Err fault)
         ⊎ (IsOk (line_of line.now) × (fault ≡ TraceFault.NoMemory))) }
 {
-    let mut buffer = [0; DATAGRAM_BYTES];
-    let datagram = read_datagram(line, &mut buffer)?;
-    let Ok(bytes) = copied(alloc, &buffer[..datagram.len]) else {
-        return Err(TraceFault::NoMemory);
-    };
-    Ok(TraceLine::Udp {
-        seconds: datagram.seconds,
-        from: datagram.from,
-        bytes,
-    })
+    let mut buffer = [0; RECORD_BYTES];
+    let record = read_record(line, &mut buffer)?;
+    match owned(alloc, record, &buffer) {
+        Ok(line) => Ok(line),
+        Err(_) => Err(TraceFault::NoMemory),
+    }
+}
+
+/// A record whose bytes stand at the front of a buffer, with a copy of these.
+fn owned(
+    alloc: Global,
+    record: Record,
+    buffer: &[u8; RECORD_BYTES],
+) -> Result<TraceLine, AllocError>
+    requires { IsWithinLimit «record» }
+    ensures value { IfOk result (λ line. line ≡ line_in «record» buffer.now) }
+    ensures counted { IfOk result (λ line. AllCount line) }
+{
+    match record {
+        Record::Datagram(received) => Ok(TraceLine::Udp {
+            seconds: received.seconds,
+            from: received.from,
+            bytes: copied(alloc, &buffer[..received.len])?,
+        }),
+        Record::Connection(received) => Ok(TraceLine::Http {
+            seconds: received.seconds,
+            from: received.from,
+            bytes: copied(alloc, &buffer[..received.len])?,
+        }),
+    }
 }
 
 /// Writes a line, without the byte 0x0A at its end: numbers without leading zeros, hex digits in
-/// lower case. A datagram has at most 2,048 bytes, all that a reader would count.
+/// lower case. A datagram has at most 2,048 bytes and a connection 8,192, all that a reader would
+/// count.
 ///
 /// # Errors
 ///
 /// `AllocError` where there was no memory for the text.
 pub fn write_line(alloc: Global, line: &TraceLine) -> Result<Bytes, AllocError>
-    requires { length (line_record line.now).bytes ≤ DATAGRAM_BYTES }
-    ensures { IfOk result (λ text. text ≡ text_of (line_record line.now)) }
+    requires { AllCount line.now }
+    ensures { IfOk result (λ text. text ≡ text_of line.now) }
 {
     match line {
         TraceLine::Udp {
             seconds,
             from,
             bytes,
-        } => write_udp(alloc, *seconds, *from, bytes.as_slice()),
+        } => write_fields(alloc, b"U", *seconds, *from, bytes.as_slice()),
+        TraceLine::Http {
+            seconds,
+            from,
+            bytes,
+        } => write_fields(alloc, b"H", *seconds, *from, bytes.as_slice()),
     }
 }
 
@@ -77,12 +113,18 @@ pub fn copied(alloc: Global, bytes: &[u8]) -> Result<Bytes, AllocError>
     Ok(copy)
 }
 
-/// Writes the line of a datagram.
-fn write_udp(alloc: Global, seconds: u64, from: Endpoint, bytes: &[u8]) -> Result<Bytes, AllocError>
-    ensures { IfOk result (λ text.
-        text ≡ text_of (record { seconds = seconds; from = from; bytes = bytes.now })) }
+/// Writes a line of five fields.
+fn write_fields(
+    alloc: Global,
+    kind: &[u8],
+    seconds: u64,
+    from: Endpoint,
+    bytes: &[u8],
+) -> Result<Bytes, AllocError>
+    ensures { IfOk result (λ text. text ≡ five_fields kind.now seconds from bytes.now) }
 {
-    let mut text = copied(alloc, b"U ")?;
+    let mut text = copied(alloc, kind)?;
+    push_all(&mut text, b" ")?;
     push_number(&mut text, seconds)?;
     push_all(&mut text, b" ")?;
     push_address(&mut text, alloc, from.addr)?;

@@ -18,14 +18,31 @@ const CONNECT: [u8; 16] = [
     0, 0, 4, 0x17, 0x27, 0x10, 0x19, 0x80, 0, 0, 0, 0, 0x12, 0x34, 0x56, 0x78,
 ];
 
+const REQUEST: &[u8] = b"GET / HTTP/1.1\r\n\r\n";
+
+const REQUEST_LINE: &[u8] = b"H 1 192.0.2.1 5000 474554202f20485454502f312e310d0a0d0a";
+
 fn fault_of(line: &[u8]) -> Option<TraceFault> {
-    let mut bytes = [0; DATAGRAM_BYTES];
-    read_datagram(line, &mut bytes).err()
+    let mut bytes = [0; RECORD_BYTES];
+    read_record(line, &mut bytes).err()
 }
 
-/// A line with a datagram of so many hex digits, and a last part.
-fn long_line(alloc: Global, digits: usize, end: &[u8]) -> Result<Vec<u8>, AllocError> {
-    let mut line = b"U 0 192.0.2.1 5000 ".to_vec(alloc)?;
+/// The record of a line, by the line's first letter.
+fn record_of(line: &[u8], received: Received) -> Record {
+    match line {
+        [b'U', ..] => Record::Datagram(received),
+        _ => Record::Connection(received),
+    }
+}
+
+/// A line that begins so, with so many hex digits and a last part.
+fn long_line(
+    alloc: Global,
+    front: &[u8],
+    digits: usize,
+    end: &[u8],
+) -> Result<Vec<u8>, AllocError> {
+    let mut line = front.to_vec(alloc)?;
     for _ in 0..digits {
         line.push(b'7')?;
     }
@@ -35,29 +52,54 @@ fn long_line(alloc: Global, digits: usize, end: &[u8]) -> Result<Vec<u8>, AllocE
 
 #[test]
 fn a_line_gives_its_parts(rt: HostRuntime) -> Result<(), Fail> {
-    let mut bytes = [9; DATAGRAM_BYTES];
-    let datagram = read_datagram(LINE, &mut bytes)?;
-    assert_eq!(rt; (datagram.seconds, datagram.from), (0, FROM));
-    assert_eq!(rt; &bytes[..datagram.len], CONNECT.as_slice());
+    let mut bytes = [9; RECORD_BYTES];
+    let datagram = Received {
+        seconds: 0,
+        from: FROM,
+        len: CONNECT.len(),
+    };
+    assert_eq!(rt; read_record(LINE, &mut bytes)?, Record::Datagram(datagram));
+    assert_eq!(rt; &bytes[..CONNECT.len()], CONNECT.as_slice());
+    let connection = Received {
+        seconds: 1,
+        from: FROM,
+        len: REQUEST.len(),
+    };
+    assert_eq!(rt;
+        read_record(REQUEST_LINE, &mut bytes)?,
+        Record::Connection(connection)
+    );
+    assert_eq!(rt; &bytes[..REQUEST.len()], REQUEST);
     Ok(())
 }
 
 #[test]
 fn lines_read_back(rt: HostRuntime) -> Result<(), Fail> {
-    let line = TraceLine::Udp {
+    let datagram = TraceLine::Udp {
         seconds: 0,
         from: FROM,
         bytes: copied(rt.alloc(), &CONNECT)?,
     };
-    let text = write_line(rt.alloc(), &line)?;
-    assert_eq!(rt; text.as_slice(), LINE);
-    let TraceLine::Udp {
-        seconds,
-        from,
-        bytes,
-    } = read_line(rt.alloc(), text.as_slice())?;
-    assert_eq!(rt; (seconds, from), (0, FROM));
-    assert_eq!(rt; bytes.as_slice(), CONNECT.as_slice());
+    assert_eq!(rt; write_line(rt.alloc(), &datagram)?.as_slice(), LINE);
+    let connection = TraceLine::Http {
+        seconds: 1,
+        from: FROM,
+        bytes: copied(rt.alloc(), REQUEST)?,
+    };
+    assert_eq!(rt;
+        write_line(rt.alloc(), &connection)?.as_slice(),
+        REQUEST_LINE
+    );
+    for text in [
+        LINE,
+        REQUEST_LINE,
+        b"U 2 10.0.0.1 1 ",
+        b"H 3 10.0.0.1 65535 ",
+    ] {
+        let line = read_line(rt.alloc(), text)?;
+        let label = format!(in rt.alloc(); "{line:?}")?;
+        assert_eq!(rt; write_line(rt.alloc(), &line)?.as_slice(), text, "{label}");
+    }
     Ok(())
 }
 
@@ -104,7 +146,7 @@ fn lines_in_their_written_form(rt: HostRuntime) -> Result<(), Fail> {
 
 #[test]
 fn the_ends_of_the_ranges_are_read(rt: HostRuntime) -> Result<(), Fail> {
-    let rows: [(&str, &[u8], u64, [u8; 4], u16, usize); 8] = [
+    let rows: [(&str, &[u8], u64, [u8; 4], u16, usize); 10] = [
         (
             "the last second, no byte",
             b"U 18446744073709551615 0.0.0.0 0 ",
@@ -169,14 +211,31 @@ fn the_ends_of_the_ranges_are_read(rt: HostRuntime) -> Result<(), Fail> {
             10000,
             0,
         ),
+        (
+            "a connection that ends at once",
+            b"H 18446744073709551615 255.255.255.255 65535 ",
+            u64::MAX,
+            [255; 4],
+            65535,
+            0,
+        ),
+        (
+            "a connection, letters in both cases",
+            b"H 00 0.0.0.0 00000 aBcDeF",
+            0,
+            [0; 4],
+            0,
+            3,
+        ),
     ];
-    let mut bytes = [0; DATAGRAM_BYTES];
+    let mut bytes = [0; RECORD_BYTES];
     for (label, line, seconds, octets, port, len) in rows {
-        let datagram = read_datagram(line, &mut bytes)?;
-        assert_eq!(rt; datagram.seconds, seconds, "{label}");
-        assert_eq!(rt; datagram.from.addr, Addr::V4(octets), "{label}");
-        assert_eq!(rt; datagram.from.port, port, "{label}");
-        assert_eq!(rt; datagram.len, len, "{label}");
+        let from = Endpoint {
+            addr: Addr::V4(octets),
+            port,
+        };
+        let want = record_of(line, Received { seconds, from, len });
+        assert_eq!(rt; read_record(line, &mut bytes)?, want, "{label}");
     }
     Ok(())
 }
@@ -184,7 +243,7 @@ fn the_ends_of_the_ranges_are_read(rt: HostRuntime) -> Result<(), Fail> {
 /// Each line is its own label.
 #[test]
 fn bad_lines_are_refused(rt: HostRuntime) {
-    let lines: [(&str, TraceFault); 58] = [
+    let lines: [(&str, TraceFault); 65] = [
         ("", Form),
         (" ", Form),
         ("U", Form),
@@ -201,6 +260,7 @@ fn bad_lines_are_refused(rt: HostRuntime) {
         ("U 0 192.0.2.1 5000", Form),
         ("U\t0 192.0.2.1 5000 00", Form),
         ("H 0", Form),
+        ("h 0 192.0.2.1 5000 00", Form),
         ("H 0 192.0.2.1 5000 00 ", Form),
         ("C 0 1", Form),
         ("C 0 192.0.2.1 5000 00", Form),
@@ -239,9 +299,15 @@ fn bad_lines_are_refused(rt: HostRuntime) {
         ("U 0 192.0.2.1 5000 0g", Hex),
         ("U 0 192.0.2.1 5000 00\r", Hex),
         ("U 0 192.0.2.1 5000 0000\r", Hex),
-        ("H 0 192.0.2.1 5000 00", Unbuilt),
-        ("H x y z ?", Unbuilt),
+        ("H 18446744073709551616 192.0.2.1 5000 00", Number),
+        ("H x y z ?", Number),
+        ("H 0 192.0.2.01 65536 0", Address),
+        ("H 0 20010db8000000000000000000000001 x y", Unbuilt),
+        ("H 0 192.0.2.1 65536 0", Number),
+        ("H 0 192.0.2.1 5000 0", Hex),
+        ("H 0 192.0.2.1 5000 474g", Hex),
         ("C 0", Unbuilt),
+        ("C x", Unbuilt),
         ("C ", Unbuilt),
     ];
     for (line, fault) in lines {
@@ -250,25 +316,37 @@ fn bad_lines_are_refused(rt: HostRuntime) {
 }
 
 #[test]
-fn of_a_long_datagram_the_first_bytes_count(rt: HostRuntime) -> Result<(), Fail> {
-    let mut bytes = [0; DATAGRAM_BYTES];
-    let rows: [(&str, usize, &[u8]); 3] = [
-        ("2,048 bytes", 2 * 2048, b""),
-        ("2,049 bytes", 2 * 2048, b"88"),
-        ("524,288 bytes", 1 << 20, b""),
+fn of_a_long_record_the_first_bytes_count(rt: HostRuntime) -> Result<(), Fail> {
+    let mut bytes = [0; RECORD_BYTES];
+    let kinds: [(&str, &[u8], usize); 2] = [
+        ("a datagram", b"U 0 192.0.2.1 5000 ", 2048),
+        ("a connection", b"H 0 192.0.2.1 5000 ", 8192),
     ];
-    for (label, digits, end) in rows {
-        let line = long_line(rt.alloc(), digits, end)?;
-        let datagram = read_datagram(line.as_slice(), &mut bytes)?;
-        assert_eq!(rt; datagram.len, 2048, "{label}");
-        assert_eq!(rt; bytes, [0x77; DATAGRAM_BYTES], "{label}");
-    }
-    for (label, end) in [
-        ("an odd digit after 2,048 bytes", b"8".as_slice()),
-        ("a bad digit after 2,048 bytes", b"8x".as_slice()),
-    ] {
-        let line = long_line(rt.alloc(), 2 * 2048, end)?;
-        assert_eq!(rt; fault_of(line.as_slice()), Some(Hex), "{label}");
+    for (label, front, len) in kinds {
+        let received = Received {
+            seconds: 0,
+            from: FROM,
+            len,
+        };
+        let want = record_of(front, received);
+        let lengths: [(usize, &[u8]); 3] = [(2 * len, b""), (2 * len, b"88"), (1 << 20, b"")];
+        for (digits, end) in lengths {
+            let line = long_line(rt.alloc(), front, digits, end)?;
+            assert_eq!(rt;
+                read_record(line.as_slice(), &mut bytes)?,
+                want,
+                "{label}: {digits}"
+            );
+            assert!(rt;
+                bytes[..len].iter().all(|byte| *byte == 0x77),
+                "{label}: {digits}"
+            );
+            bytes = [0; RECORD_BYTES];
+        }
+        for end in ["8", "8x"] {
+            let line = long_line(rt.alloc(), front, 2 * len, end.as_bytes())?;
+            assert_eq!(rt; fault_of(line.as_slice()), Some(Hex), "{label}: {end}");
+        }
     }
     Ok(())
 }
