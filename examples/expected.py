@@ -1,20 +1,17 @@
 #!/usr/bin/env python3
-"""What a replay of a trace of UDP datagrams must write: expected.py < TRACE > REPLIES
+"""What a replay of a trace must write: expected.py < TRACE > REPLIES
 
 A tracker on its own, with nothing in common with the one in crates/ but the formats and rules of docs/. It knows no
-limits: a trace must not reach them.
+limits: a trace must not reach them. It answers datagrams (`U`) and connections (`H`) of IPv4.
 """
 import hashlib
+import re
 import struct
 import sys
 
 SECRET = bytes(20)
 PEER_MINUTES, TORRENT_MINUTES = 45, 1440
-
-
-def connection_id(address, minute):
-    text = SECRET + bytes(10) + b"\xff\xff" + address + struct.pack(">Q", minute)
-    return hashlib.sha1(text).digest()[:8]
+DATAGRAM_BYTES, CONNECTION_BYTES = 2048, 8192
 
 
 class Torrent:
@@ -64,6 +61,16 @@ class Tracker:
         return self.torrents.get(info_hash, Torrent()).counts()
 
 
+def compact(peers):
+    """Six bytes for each peer."""
+    return b"".join(address + struct.pack(">H", port) for address, port in peers)
+
+
+def connection_id(address, minute):
+    text = SECRET + bytes(10) + b"\xff\xff" + address + struct.pack(">Q", minute)
+    return hashlib.sha1(text).digest()[:8]
+
+
 def error(transaction, text):
     return struct.pack(">II", 3, transaction) + text
 
@@ -80,8 +87,7 @@ def announce_reply(tracker, transaction, address, datagram):
         want = 50 if want < 0 else min(want, 200)
         told = tracker.announce(info_hash, endpoint, left == 0 or completed, completed, want)
     (seeders, _, leechers), peers = told
-    head = struct.pack(">IIIII", 1, transaction, 1800, leechers, seeders)
-    return head + b"".join(a + struct.pack(">H", p) for a, p in peers)
+    return struct.pack(">IIIII", 1, transaction, 1800, leechers, seeders) + compact(peers)
 
 
 def scrape_reply(tracker, transaction, _, datagram):
@@ -90,11 +96,10 @@ def scrape_reply(tracker, transaction, _, datagram):
     return struct.pack(">II", 2, transaction) + b"".join(groups)
 
 
-def output(tracker, seconds, address, datagram):
-    """The reply to a datagram in hex digits, or why there is none."""
+def datagram_output(tracker, minute, address, datagram):
+    """The output line of a datagram: the reply to it in hex digits, or why there is none."""
     if len(datagram) < 16:
         return "S short"
-    minute = min(seconds // 60, 2**32 - 1)
     connection, action, transaction = struct.unpack(">8sII", datagram[:16])
     if action == 0 and connection != struct.pack(">Q", 0x41727101980):
         return "S protocol"
@@ -117,13 +122,158 @@ def output(tracker, seconds, address, datagram):
     return "R " + reply.hex()
 
 
+class Head:
+    """A request's head (RFC 9112): a method, a target and at most 64 fields, at the front of what was sent. A line may
+    end in LF alone, and empty lines may come first."""
+
+    END, TOKEN = rb"\r?\n", rb"[!#$%&'*+.^_`|~0-9A-Za-z-]+"
+    FORM = re.compile(
+        rb"(?:%b)*(?P<method>%b) (?P<target>[^\x00-\x20\x7f]+) HTTP/1\.[01]%b" % (END, TOKEN, END)
+        + rb"(?:%b:[\t\x20-\x7e\x80-\xff]*%b){0,64}%b" % (TOKEN, END, END)
+    )
+
+    @classmethod
+    def find(cls, sent):
+        """The method and the target, where what was sent begins with a head."""
+        head = cls.FORM.match(sent)
+        if head is None:
+            return None
+        try:
+            head["target"].decode("utf-8")
+        except UnicodeDecodeError:
+            return None
+        return head["method"], head["target"]
+
+    @classmethod
+    def refusal(cls, sent):
+        """The code for what has no head in front, or None where a head might have come yet."""
+        lines = re.sub(rb"\A(?:%b)+" % cls.END, b"", sent)
+        first, end, _ = lines.partition(b"\n")
+        if end and not first.removesuffix(b"\r").endswith((b" HTTP/1.0", b" HTTP/1.1")):
+            return 400
+        return 431 if lines.count(b"\n") >= 67 or len(sent) == CONNECTION_BYTES else None
+
+
+class Query:
+    """The path of a target, and the pairs of its query in order."""
+
+    def __init__(self, target):
+        self.path, _, query = target.partition(b"?")
+        pieces = [piece.partition(b"=") for piece in query.split(b"&") if piece]
+        self.pairs = [(self.decode(name), self.decode(value)) for name, _, value in pieces]
+
+    @staticmethod
+    def decode(text):
+        """Escapes are decoded. A `%` without two hex digits stays as it stands, and so does `+`."""
+        return re.sub(rb"%([0-9A-Fa-f]{2})", lambda escape: bytes([int(escape[1], 16)]), text)
+
+    def all(self, name):
+        return [value for other, value in self.pairs if other == name]
+
+    def first(self, name):
+        return next(iter(self.all(name)), None)
+
+    def number(self, name):
+        """The number of 64 bits that the first value of this name is."""
+        text = self.first(name) or b""
+        digits = text.lstrip(b"0")
+        if not re.fullmatch(rb"[0-9]+", text) or len(digits) > 20:
+            return None
+        number = int(digits or b"0")
+        return number if number < 2**64 else None
+
+
+class Refused(Exception):
+    """A request that is answered with a reason."""
+
+
+def bencode(value):
+    """BEP 3."""
+    if isinstance(value, int):
+        return b"i%de" % value
+    if isinstance(value, bytes):
+        return b"%d:%b" % (len(value), value)
+    return b"d" + b"".join(bencode(key) + bencode(value[key]) for key in sorted(value)) + b"e"
+
+
+def counts_dictionary(counts):
+    return dict(zip((b"complete", b"downloaded", b"incomplete"), counts))
+
+
+def announce_body(tracker, minute, address, query):
+    info_hash, port, event = query.first(b"info_hash"), query.number(b"port"), query.first(b"event")
+    if info_hash is None:
+        raise Refused(b"missing info_hash")
+    if len(info_hash) != 20:
+        raise Refused(b"bad info_hash")
+    if query.first(b"port") is None:
+        raise Refused(b"missing port")
+    if port is None or not 1 <= port <= 65535:
+        raise Refused(b"bad port")
+    endpoint, completed, want = (address, port), event == b"completed", query.number(b"numwant")
+    tracker.advance(minute)
+    if event == b"stopped":
+        counts, peers = tracker.stop(info_hash, endpoint)
+    else:
+        seed, want = query.number(b"left") == 0 or completed, 50 if want is None else min(want, 200)
+        counts, peers = tracker.announce(info_hash, endpoint, seed, completed, want)
+    more = {b"interval": 1800, b"min interval": 900, b"peers": compact(peers)}
+    return bencode(counts_dictionary(counts) | more)
+
+
+def scrape_body(tracker, minute, hashes):
+    if any(len(info_hash) != 20 for info_hash in hashes):
+        raise Refused(b"bad info_hash")
+    tracker.advance(minute)
+    known = [info_hash for info_hash in hashes if info_hash in tracker.torrents]
+    return bencode({b"files": {info_hash: counts_dictionary(tracker.scrape(info_hash)) for info_hash in known}})
+
+
+def answer(tracker, minute, address, query):
+    """The code and the body for a request."""
+    hashes = query.all(b"info_hash")
+    try:
+        if query.path == b"/announce":
+            return 200, announce_body(tracker, minute, address, query)
+        if query.path == b"/scrape" and hashes:
+            return 200, scrape_body(tracker, minute, hashes)
+    except Refused as why:
+        return 200, bencode({b"failure reason": why.args[0]})
+    return 404, b""
+
+
+def http_reply(code, body):
+    reasons = {200: "OK", 400: "Bad Request", 404: "Not Found", 431: "Request Header Fields Too Large"}
+    head = [
+        f"HTTP/1.1 {code} {reasons[code]}",
+        "Content-Type: text/plain",
+        f"Content-Length: {len(body)}",
+        "Connection: close",
+    ]
+    return "".join(line + "\r\n" for line in head + [""]).encode() + body
+
+
+def connection_output(tracker, minute, address, sent):
+    """The output line of a connection: what is written on it in hex digits, or that it ended before a head."""
+    head = Head.find(sent)
+    code, body = Head.refusal(sent), b""
+    if head is not None:
+        method, target = head
+        code, body = answer(tracker, minute, address, Query(target)) if method == b"GET" else (400, b"")
+    return "S cut" if code is None else "R " + http_reply(code, body).hex()
+
+
 def main():
     tracker = Tracker()
     for line in sys.stdin:
         kind, seconds, address, _, digits = line.rstrip("\n").split(" ")
-        assert kind == "U", "only datagrams"
-        address = bytes(int(number) for number in address.split("."))
-        print(output(tracker, int(seconds), address, bytes.fromhex(digits)[:2048]))
+        minute = min(int(seconds) // 60, 2**32 - 1)
+        address, received = bytes(int(number) for number in address.split(".")), bytes.fromhex(digits)
+        if kind == "U":
+            print(datagram_output(tracker, minute, address, received[:DATAGRAM_BYTES]))
+        else:
+            assert kind == "H", "only datagrams and connections"
+            print(connection_output(tracker, minute, address, received[:CONNECTION_BYTES]))
 
 
 main()
