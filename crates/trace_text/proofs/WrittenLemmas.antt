@@ -137,7 +137,11 @@ hex_again bytes all =
           ne_eqb _ 32 (λ e. let digit = digits k d lt in let space : is_hex_digit 32 ≡ true = subst (λ c. is_hex_digit c ≡ true) e digit in cc);
     }
 
--- the fields of a written line
+-- a byte that isn't a space
+abbrev pub IsNoSpace : ℕ → Type 0
+IsNoSpace b = (b == 32) ≡ false
+
+-- the fields of a written line, and that they say again what came
 record FieldsText (kind : List ℕ) (seconds : ℕ) (from : Endpoint) (bytes : List ℕ) : Type 0 where
   time : List ℕ
   address : List ℕ
@@ -148,49 +152,64 @@ record FieldsText (kind : List ℕ) (seconds : ℕ) (from : Endpoint) (bytes : L
       → arrival_of most time address port hex ≡ Ok (record { seconds = seconds; from = from; bytes = bytes })
 
 -- a line with each field before the rest
-fields_before : (seconds port : ℕ) (kind address hex : List ℕ)
-    → kind ++ codes " " ++ decimal seconds ++ codes " " ++ address ++ codes " " ++ decimal port ++ codes " " ++ hex
-    ≡ kind ++ (32 ∷ (decimal seconds ++ (32 ∷ (address ++ (32 ∷ (decimal port ++ (32 ∷ hex)))))))
-fields_before seconds port kind address hex = simp append_assoc
+fields_before : (kind time address port hex : List ℕ)
+    → kind ++ codes " " ++ time ++ codes " " ++ address ++ codes " " ++ port ++ codes " " ++ hex
+    ≡ kind ++ (32 ∷ (time ++ (32 ∷ (address ++ (32 ∷ (port ++ (32 ∷ hex)))))))
+fields_before kind time address port hex = simp append_assoc
 
-fields_parts : (seconds port : ℕ) (kind octets bytes : List ℕ) → All (λ b. (b == 32) ≡ false) kind → seconds < 2 ^ 64 → port < 2 ^ 16 → AddressText octets → HexText bytes
-    → parts_of 32 (five_fields kind seconds (record { addr = V4 octets; port = port }) bytes)
-    ≡ kind ∷ decimal seconds ∷ dotted_text octets ∷ decimal port ∷ encode_lower bytes ∷ []
-fields_parts seconds port kind octets bytes letters hs hp address hex =
-    let no_space : (n : ℕ) → n < 2 ^ 64 → All (λ x. (x == 32) ≡ false) (decimal n) = λ n h. digits_other 32 n (omega arith) h in
-    let after_port = 32 ∷ encode_lower bytes in
-    let after_address = 32 ∷ (decimal port ++ after_port) in
-    let after_seconds = 32 ∷ (dotted_text octets ++ after_address) in
-    ap (parts_of 32) (fields_before seconds port kind (dotted_text octets) (encode_lower bytes))
-    ∙ part 32 kind (decimal seconds ++ after_seconds) refl letters
-    ∙ ap (λ l. kind ∷ l) (part 32 (decimal seconds) (dotted_text octets ++ after_address) refl (no_space seconds hs)
-    ∙ ap (λ l. decimal seconds ∷ l) (part 32 (dotted_text octets) (decimal port ++ after_port) refl address.other
-    ∙ ap (λ l. dotted_text octets ∷ l) (part 32 (decimal port) (encode_lower bytes) refl (no_space port (omega arith))
-    ∙ ap (λ l. decimal port ∷ l) (last_part 32 (encode_lower bytes) hex.other))))
+-- five fields in which no space stands are cut where they were joined
+fields_parts : (kind time address port hex : List ℕ) → All IsNoSpace kind → All IsNoSpace time
+    → All IsNoSpace address → All IsNoSpace port → All IsNoSpace hex
+    → parts_of 32 (kind ++ codes " " ++ time ++ codes " " ++ address ++ codes " " ++ port ++ codes " " ++ hex)
+    ≡ kind ∷ time ∷ address ∷ port ∷ hex ∷ []
+fields_parts kind time address port hex hk ht ha hp hh =
+    let after_port = 32 ∷ hex in
+    let after_address = 32 ∷ (port ++ after_port) in
+    let after_time = 32 ∷ (address ++ after_address) in
+    ap (parts_of 32) (fields_before kind time address port hex)
+    ∙ part 32 kind (time ++ after_time) refl hk
+    ∙ ap (λ l. kind ∷ l) (part 32 time (address ++ after_address) refl ht
+    ∙ ap (λ l. time ∷ l) (part 32 address (port ++ after_port) refl ha
+    ∙ ap (λ l. address ∷ l) (part 32 port hex refl hp
+    ∙ ap (λ l. port ∷ l) (last_part 32 hex hh))))
 
-four_fields_again : (kind : List ℕ) (seconds port : ℕ) (addr : Addr) (bytes : List ℕ) → All (λ b. (b == 32) ≡ false) kind
-    → (let from : Endpoint = record { addr = addr; port = port } in IsArrival seconds from bytes → FieldsText kind seconds from bytes)
+number_no_space : (n : ℕ) → n < 2 ^ 64 → All IsNoSpace (decimal n)
+number_no_space n h = digits_other 32 n (omega arith) h
+
+four_fields_again : (kind : List ℕ) (seconds port : ℕ) (addr : Addr) (bytes : List ℕ) → All IsNoSpace kind
+    → (let from : Endpoint = record { addr = addr; port = port } in
+    IsArrival seconds from bytes → FieldsText kind seconds from bytes)
 four_fields_again kind seconds port (V4 octets) bytes letters h =
     let address = address_again octets h.address_of_four.0 h.address_of_four.1 in
     let hex = hex_again bytes h.bytes_of_8_bits in
+    let small : port < 2 ^ 64 = omega (arith, h.port_of_16_bits) in
+    let time_again = seconds_again seconds h.seconds_of_64_bits in
+    let port_is = port_again port h.port_of_16_bits in
     record {
       time = decimal seconds;
       address = dotted_text octets;
       port = decimal port;
       hex = encode_lower bytes;
-      parts = fields_parts seconds port kind octets bytes letters h.seconds_of_64_bits h.port_of_16_bits address hex;
-      read = λ most few. rw (seconds_again seconds h.seconds_of_64_bits, address.read, port_again port h.port_of_16_bits, hex.read, take_all most bytes few) refl;
+      parts = fields_parts kind (decimal seconds) (dotted_text octets) (decimal port) (encode_lower bytes) letters
+          (number_no_space seconds h.seconds_of_64_bits) address.other (number_no_space port small) hex.other;
+      read = λ most few. rw (time_again, address.read, port_is, hex.read, take_all most bytes few) refl;
     }
 four_fields_again kind seconds port (V6 address) bytes letters h = absurd h.address_of_four
 
 -- what was written of something that came is read again
-fields_again : (kind : List ℕ) (seconds : ℕ) (from : Endpoint) (bytes : List ℕ) → All (λ b. (b == 32) ≡ false) kind → IsArrival seconds from bytes → FieldsText kind seconds from bytes
-fields_again kind seconds from bytes letters h = four_fields_again kind seconds from.port from.addr bytes letters h
+fields_again : (kind : List ℕ) (seconds : ℕ) (from : Endpoint) (bytes : List ℕ) → All IsNoSpace kind
+    → IsArrival seconds from bytes → FieldsText kind seconds from bytes
+fields_again kind seconds from bytes letters h =
+    four_fields_again kind seconds from.port from.addr bytes letters h
+
+-- a letter that isn't a space
+letter_no_space : (letter : ℕ) → (letter == 32) ≡ false → All IsNoSpace (letter ∷ [])
+letter_no_space letter other = All-cons IsNoSpace letter [] other (λ i d lt. absurd (omega arith))
 
 pub line_again : (line : TraceLine) → IsOfFour line → AllCount line → line_of (text_of line) ≡ Ok line
 line_again (Udp seconds from bytes) h few =
-    let again = fields_again (codes "U") seconds from bytes (All-cons (λ x. (x == 32) ≡ false) 85 [] refl (λ i d lt. absurd (omega arith))) h in
+    let again = fields_again (codes "U") seconds from bytes (letter_no_space 85 refl) h in
     ap fields_line again.parts ∙ rw (again.read 2048 few) refl
 line_again (Http seconds from bytes) h few =
-    let again = fields_again (codes "H") seconds from bytes (All-cons (λ x. (x == 32) ≡ false) 72 [] refl (λ i d lt. absurd (omega arith))) h in
+    let again = fields_again (codes "H") seconds from bytes (letter_no_space 72 refl) h in
     ap fields_line again.parts ∙ rw (again.read 8192 few) refl

@@ -110,7 +110,8 @@ fn read_fields(
 ) -> Result<Received, TraceFault>
     requires { most ≤ RECORD_BYTES }
     ensures read { IfOk result (λ received.
-        arrival_of most time.now address.now port.now hex.now ≡ Ok (arrival_in received bytes.new)) }
+        arrival_of most time.now address.now port.now hex.now
+        ≡ Ok (arrival_in received bytes.new)) }
     ensures four { IfOk result (λ received. family_of received.from.addr ≡ Four) }
     ensures fits { IfOk result (λ received. received.len ≤ most) }
     ensures refused { IfErr result (λ fault.
