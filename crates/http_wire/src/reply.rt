@@ -34,13 +34,17 @@ impl Code {
     }
 }
 
+/// How many bytes the head of a reply has at most.
+const HEAD_ROOM: usize = 131;
+
 /// Writes a whole reply: its head, with the body's length in decimal, and the body. The connection
-/// ends after it.
+/// ends after it. It takes one block of memory.
 pub fn write_reply(alloc: Global, code: Code, body: &[u8]) -> Result<Bytes, AllocError>
     ensures { IfOk result (λ reply. reply ≡ reply_of code body.now) }
 {
     let mut digits = Buffer::new();
-    let mut reply = Vec::from_slice(alloc, code.first_line())?;
+    let mut reply = Vec::with_capacity(alloc, body.len().saturating_add(HEAD_ROOM))?;
+    reply.extend_from_slice(code.first_line())?;
     reply.extend_from_slice(b"Content-Type: text/plain\r\nContent-Length: ")?;
     reply.extend_from_slice(digits.format(body.len()).as_bytes())?;
     reply.extend_from_slice(b"\r\nConnection: close\r\n\r\n")?;
