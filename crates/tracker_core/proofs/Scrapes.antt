@@ -1,8 +1,12 @@
--- What is read as a scrape names a torrent at least.
-use Rattle.std.proofs.Common.{◌≡◌, ℕ, zero, suc, ◌+◌, ◌-◌, ◌*◌, ◌/◌, ◌≤◌, Bool, true, false, List, [], ◌∷◌, length, min, nat_lt, refl, sym, subst, arith, length-append}
+-- What is read as a scrape names a torrent at least, and scrapes are well formed.
+use Rattle.std.specs.List.{AllByRecursion}
+use Rattle.std.proofs.Common.{map, ◌≡◌, ℕ, zero, suc, ◌+◌, ◌-◌, ◌*◌, ◌/◌, ◌≤◌, Bool, true, false, List, [], ◌∷◌, length, min, nat_lt, refl, sym, subst, arith, length-append}
 use Rattle.std.specs.Prelude.{◌==◌, if◌then◌else◌}
 use Rattle.std.proofs.lemmas.Bool.{ltb-false}
 use Rattle.udp_wire.specs.Packets.{hash_at, hashes_of, action_of, connection_of, transaction_of, fields_of, connect_of, announce_of, scrape_of, request_of}
+use Rattle.ot_base.specs.declared.hash.InfoHash.{InfoHash}
+use Rattle.tracker_model.specs.Calls.{IsWellFormed}
+use Rattle.tracker_model.specs.declared.call.Call.TheVariants.{Scrape}
 use Rattle.tracker_core.specs.UdpPlan.{Names}
 use Rattle.udp_wire.specs.declared.request.Quiet.TheVariants as quiet
 use Rattle.udp_wire.specs.declared.request.Request.{Request}
@@ -42,3 +46,8 @@ names_request bytes =
     chosen (action_of bytes == 0) _ _ (λ h. names_connect bytes) (λ h.
     chosen (action_of bytes == 1) _ _ (λ h. names_announce bytes) (λ h.
     chosen (action_of bytes == 2) _ _ (λ h. names_scrape bytes) (λ h. tt))))
+
+-- each scrape is well formed, whatever its hash
+pub scrapes-well-formed : (hashes : List InfoHash) → AllByRecursion IsWellFormed (map Scrape hashes)
+scrapes-well-formed [] = tt
+scrapes-well-formed (hash ∷ hashes) = (tt, scrapes-well-formed hashes)

@@ -1,12 +1,10 @@
 -- What is to be done for a datagram, as a function of what it asks, who sent it and when.
-use Rattle.std.specs.Prelude.{ℕ, ℤ, pos, negsuc, Bool, true, false, ◌||◌, ◌==◌, ◌≤◌, min, List, [], ◌∷◌}
+use Rattle.std.specs.Prelude.{ℕ, ℤ, pos, negsuc, ◌==◌, ◌≤◌, List, [], ◌∷◌, Some, None}
 use Rattle.std.specs.Prelude.{length, map, if◌then◌else◌}
 use Rattle.ot_base.specs.declared.address.Endpoint.{Endpoint}
 use Rattle.ot_base.specs.declared.hash.InfoHash.{InfoHash}
 use Rattle.ot_base.specs.declared.hash.Secret.{Secret}
 use Rattle.ot_base.specs.declared.minute.Minute.{Minute}
-use Rattle.ot_base.specs.declared.peer.Event.{Event}
-use Rattle.ot_base.specs.declared.peer.Event.TheVariants as event
 use Rattle.ot_base.specs.declared.refusal.Refusal.TheVariants as refusal
 use Rattle.tracker_model.specs.declared.call.Call.{Call}
 use Rattle.tracker_model.specs.declared.call.Call.TheVariants as call
@@ -14,34 +12,20 @@ use Rattle.conn_id.specs.ConnectionId.{mint_of, accepted_id}
 use Rattle.udp_wire.specs.declared.request.UdpAnnounce.{UdpAnnounce}
 use Rattle.udp_wire.specs.declared.request.Request.{Request}
 use Rattle.udp_wire.specs.declared.request.Request.TheVariants as request
+-- handed on to those that look for it here
+pub use Rattle.tracker_core.specs.Reports.{IsReport}
+use Rattle.tracker_core.specs.Reports.{peers_wanted, listener_of, report_call}
 use Rattle.tracker_core.specs.declared.udp_plan.UdpPlan.{UdpPlan}
 use Rattle.tracker_core.specs.declared.udp_plan.UdpPlan.TheVariants.{Silent, Connected, Refused, Announce, Scrape}
 
--- how many peers an announce wants to be told: 50 where its number is negative, and at most 200
+-- how many peers an announce wants to be told: where its number is negative it says none
 abbrev pub wanted_peers : ℤ → ℕ
-wanted_peers (pos n) = min n 200
-wanted_peers (negsuc n) = 50
-
--- where the client listens: the address that the datagram came from, and the port that it names
-abbrev pub listener_of : Endpoint → UdpAnnounce → Endpoint
-listener_of from a = record { addr = from.addr; port = a.port }
-
--- an announce of a peer that takes part: a seed where nothing is left, or where it has just
--- finished
-abbrev pub joining_call : Endpoint → UdpAnnounce → Bool → Call
-joining_call from a completed =
-    call.Announce a.hash (listener_of from a) (a.left == 0 || completed) completed
-    (wanted_peers a.want)
-
--- the call of an announce, by its event
-abbrev pub event_call : Event → Endpoint → UdpAnnounce → Call
-event_call event.Nothing from a = joining_call from a false
-event_call event.Started from a = joining_call from a false
-event_call event.Completed from a = joining_call from a true
-event_call event.Stopped from a = call.Stop a.hash (listener_of from a)
+wanted_peers (pos n) = peers_wanted (Some n)
+wanted_peers (negsuc n) = peers_wanted None
 
 abbrev pub announce_call : Endpoint → UdpAnnounce → Call
-announce_call from a = event_call a.event from a
+announce_call from a =
+    report_call a.event a.hash (listener_of from a.port) (a.left == 0) (wanted_peers a.want)
 
 -- an announce or a stop needs a connection id of its address that isn't too old, and a port
 abbrev pub announce_plan : Secret → Endpoint → Minute → UdpAnnounce → UdpPlan
@@ -75,16 +59,6 @@ calls_of (Connected transaction connection) = []
 calls_of (Refused transaction why) = []
 calls_of (Announce transaction call) = call ∷ []
 calls_of (Scrape transaction hashes) = map call.Scrape hashes
-
--- an announce or a stop: what a plan of one call makes
-abbrev pub IsReport : Call → Type 0
-IsReport (call.Announce hash who seed completed want) = Unit {0}
-IsReport (call.Stop hash who) = Unit {0}
-IsReport (call.Scrape hash) = ⊥
-IsReport call.Scan = ⊥
-IsReport call.Clean = ⊥
-IsReport (call.Sync hash who mark) = ⊥
-IsReport call.Drain = ⊥
 
 -- where it is a scrape, it names a torrent
 abbrev pub Names : Request → Type 0

@@ -6,15 +6,15 @@ ghost use Rattle.ot_base.specs.Address.{family_of};
 ghost use Rattle.ot_base.specs.declared.address.Family.TheVariants.{Four};
 ghost use Rattle.udp_wire.specs.Packets.{request_of};
 ghost use Rattle.tracker_model.specs.Calls.{IsWellFormed};
-ghost use Rattle.tracker_core.specs.UdpPlan.{IsComplete, IsReport, announce_call, announce_plan, calls_of, udp_plan, wanted_peers};
+ghost use Rattle.tracker_core.specs.Reports.{IsReport};
+ghost use Rattle.tracker_core.specs.UdpPlan.{IsComplete, announce_call, announce_plan, calls_of};
+ghost use Rattle.tracker_core.specs.UdpPlan.{udp_plan, wanted_peers};
 
+use crate::report::{peers_wanted, report_call};
 use conn_id::{check, mint};
-use ot_base::{Endpoint, Event, Hashes, Minute, Refusal, Secret};
-use tracker_model::{Call, WANTED_PEERS};
+use ot_base::{Endpoint, Hashes, Minute, Refusal, Secret};
+use tracker_model::Call;
 use udp_wire::{Quiet, Request, UdpAnnounce, read_request};
-
-/// How many peers a client is told that leaves their number to the tracker.
-const USUAL_PEERS: u32 = 50;
 
 /// What is to be done for a datagram.
 #[derive(Debug, Drop)]
@@ -105,31 +105,23 @@ fn call_of(from: Endpoint, announce: &UdpAnnounce) -> Call
     ensures value { result ≡ announce_call from announce.now }
     ensures report { IsReport result }
 {
-    let hash = announce.hash;
     let who = Endpoint {
         addr: from.addr,
         port: announce.port,
     };
-    let completed = match announce.event {
-        Event::Stopped => return Call::Stop { hash, who },
-        Event::Completed => true,
-        Event::Nothing | Event::Started => false,
-    };
-    Call::Announce {
-        hash,
+    let done = announce.left == 0;
+    report_call(
+        announce.hash,
         who,
-        seed: announce.left == 0 || completed,
-        completed,
-        want: want_of(announce.want),
-    }
+        announce.event,
+        done,
+        want_of(announce.want),
+    )
 }
 
 /// How many peers are wanted, where an announce says this number.
 fn want_of(number: i32) -> u32
     ensures { result ≡ wanted_peers number }
 {
-    match u32::try_from(number) {
-        Ok(number) => number.min(WANTED_PEERS),
-        Err(_) => USUAL_PEERS,
-    }
+    peers_wanted(u64::try_from(number).ok())
 }
