@@ -7,7 +7,7 @@
 # bench/RESULTS.md has what was measured.
 set -euo pipefail
 cd "$(dirname "$0")/.."
-kinds=${*:-announces torrent swarm stops scrape scrapes scrape_of_1000 scrapes_of_1000}
+kinds=${*:-announces http torrent swarm stops scrape scrapes scrape_of_1000 scrapes_of_1000}
 work=$(mktemp -d)
 trap 'rm -rf "$work"' EXIT
 ./opentracker replay </dev/null
@@ -18,6 +18,7 @@ size() {
     case $1 in
         connects) echo 1000000 3 0 ;;
         announces) echo 1000000 3 100000 ;;
+        http) echo 300000 3 100000 ;;
         torrent) echo 100000 3 1000 ;;
         swarm) echo 20000 1 20000 ;;
         stops) echo 1000000 3 0 ;;

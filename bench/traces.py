@@ -10,6 +10,7 @@ scrape      scrapes of one torrent each, of 74 torrents with a peer each
 scrapes     the same of 74 torrents each
 scrape_of_1000, scrapes_of_1000
             the same two of 1,000 torrents
+http        the announces, over HTTP: connections that sent a head of some 300 bytes
 
 Connects come at ten a second, all else at a hundred a second. Before the scrapes each torrent is
 announced.
@@ -103,7 +104,21 @@ def scrapes_of_1000(count, write):
     scrape(count, write, hashes=74, torrents=1_000)
 
 
-KINDS = [connects, announces, torrent, swarm, stops, scrape, scrapes, scrape_of_1000, scrapes_of_1000]
+def http(count, write, torrents=1_000, endpoints=100_000):
+    """The announces of the same endpoints as `announces`, each as a usual client's request."""
+    for i in range(count):
+        who, round_ = i % endpoints, i // endpoints
+        left = 0 if round_ and who % 3 == 0 else 1 << 30
+        name = "".join(f"%{byte:02x}" for byte in info_hash(who % torrents))
+        head = (
+            f"GET /announce?info_hash={name}&peer_id=-xx0000-000000000000&port=6881&uploaded=0&downloaded=0"
+            f"&left={left}&numwant=50&key=1a2b3c4d&compact=1 HTTP/1.1\r\n"
+            "Host: tracker.example:6969\r\nUser-Agent: client/1.0\r\nAccept: */*\r\nAccept-Encoding: gzip\r\n\r\n"
+        )
+        write(f"H {i // 100} {dotted(address_of(who))} 6881 {head.encode().hex()}\n")
+
+
+KINDS = [connects, announces, torrent, swarm, stops, scrape, scrapes, scrape_of_1000, scrapes_of_1000, http]
 
 
 def main():

@@ -5,7 +5,6 @@ use Rattle.std.specs.List.{AllByRecursion}
 use Rattle.std.specs.Io.KnownBytes.{Consumes, Appends, IsAtEnd}
 use Rattle.ot_base.specs.declared.fault.TraceFault.{TraceFault}
 use Rattle.ot_base.specs.declared.hash.Secret.{Secret}
-use Rattle.ot_base.specs.declared.minute.Minute.{Minute}
 use Rattle.ot_io.specs.Counts.{Rose}
 use Rattle.ot_io.specs.declared.status.LineFault.{LineFault}
 use Rattle.ot_io.specs.declared.status.LineFault.TheVariants.{Trace}
@@ -17,13 +16,13 @@ use Rattle.lines.specs.declared.run.Ending.{Ending}
 use Rattle.lines.specs.declared.run.Ending.TheVariants as ending
 use Rattle.lines.proofs.Along.{RunsLines-along}
 use Rattle.lines.proofs.Complete.{IsGood, complete}
-use Rattle.tracker_core.specs.declared.udp_plan.UdpPlan.{UdpPlan}
+use Rattle.trace_text.specs.Trace.{line_of}
+use Rattle.trace_text.specs.declared.line.TraceLine.{TraceLine}
 use Rattle.tracker_model.specs.Settings.{Settings}
 use Rattle.tracker_model.specs.Stands.{StandsFor}
 use Rattle.tracker_model.specs.declared.entry.Entry.{Entry}
 use Rattle.offline.specs.Command.{IsRecord, ReplayRun, status_of}
 use Rattle.offline.specs.Follows.{Follows}
-use Rattle.offline.specs.Records.{line_plan}
 use Rattle.offline.specs.Replay.{IsAnswered, IsRefused, no_calls, usual_settings}
 use Rattle.offline.specs.declared.replay.Replay.{Replay}
 
@@ -57,13 +56,13 @@ step secret g s new histories line text meets follows =
 -- the run of a new replay
 pub histories_of : (Ended : Type 0) (left left' held held' : Option (List ℕ)) (secret : Secret) (old new : Replay) (end : Ending LineFault)
     → old.secret ≡ secret → old.bucket.settings ≡ usual_settings → StandsFor [] old.bucket
-    → RunsLines Ended Follows (λ (s : Replay) line fault. IsRefused s.secret line fault) (λ _. Unit {0}) (λ _ _. ⊥) left left' held held' old new end
-    → (histories : List (List Entry)) × RunsLines Ended (IsAnswered secret usual_settings) (λ _ line fault. IsRefused secret line fault) (λ _. Unit {0}) (λ _ _. ⊥) left left' held held' no_calls histories end
+    → RunsLines Ended Follows (λ _ line fault. IsRefused line fault) (λ _. Unit {0}) (λ _ _. ⊥) left left' held held' old new end
+    → (histories : List (List Entry)) × RunsLines Ended (IsAnswered secret usual_settings) (λ _ line fault. IsRefused line fault) (λ _. Unit {0}) (λ _ _. ⊥) left left' held held' no_calls histories end
 histories_of Ended left left' held held' secret old new end same settings stands run =
-    RunsLines-along Ended Follows (λ (s : Replay) line fault. IsRefused s.secret line fault) (λ _. Unit {0}) (λ _ _. ⊥)
-    (IsAnswered secret usual_settings) (λ _ line fault. IsRefused secret line fault) (λ _. Unit {0}) (λ _ _. ⊥) (Meets secret usual_settings)
+    RunsLines-along Ended Follows (λ _ line fault. IsRefused line fault) (λ _. Unit {0}) (λ _ _. ⊥)
+    (IsAnswered secret usual_settings) (λ _ line fault. IsRefused line fault) (λ _. Unit {0}) (λ _ _. ⊥) (Meets secret usual_settings)
     (step secret usual_settings)
-    (λ s t line fault meets refused. let Of : Secret → Type 0 = λ x. IsRefused x line fault in subst Of meets.secret_is refused)
+    (λ s t line fault meets refused. refused)
     (λ s t meets h. h) (λ s t fault meets h. h)
     left left' held held' old new no_calls end (record { history = []; one = refl; secret_is = same; settings_are = settings; stands = stands }) run
 
@@ -76,19 +75,19 @@ unfolding IsFalse
 different e = subst IsFalse e tt
 
 -- a record isn't refused
-unrefused : (r : Result (Minute × UdpPlan) TraceFault) (fault : TraceFault) → IsOk r → r ≡ Err fault → ⊥
-unrefused (Ok p) fault ok is = let Holds : Result (Minute × UdpPlan) TraceFault → Type 0 = λ x. IsOk x in different (subst Holds is ok)
+unrefused : (r : Result TraceLine TraceFault) (fault : TraceFault) → IsOk r → r ≡ Err fault → ⊥
+unrefused (Ok p) fault ok is = let Holds : Result TraceLine TraceFault → Type 0 = λ x. IsOk x in different (subst Holds is ok)
 unrefused (Err e) fault ok is = different ok
 
-good_line : (secret : Secret) (line : List ℕ) → IsRecord secret line → IsGood {S = List (List Entry)} (λ _ line fault. IsRefused secret line fault) line
-good_line secret line is_record = (is_record.0, λ s fault refused. refused_record fault refused)
+good_line : (line : List ℕ) → IsRecord line → IsGood {S = List (List Entry)} (λ _ line fault. IsRefused line fault) line
+good_line line is_record = (is_record.0, λ s fault refused. refused_record fault refused)
   where
-    refused_record : (fault : LineFault) → IsRefused secret line fault → ⊥
-    refused_record (Trace fault) refused = unrefused (line_plan secret line) fault is_record.1 refused
+    refused_record : (fault : LineFault) → IsRefused line fault → ⊥
+    refused_record (Trace fault) refused = unrefused (line_of line) fault is_record.1 refused
 
-good_lines : (secret : Secret) (lines : List (List ℕ)) → AllByRecursion (IsRecord secret) lines → AllByRecursion (IsGood {S = List (List Entry)} (λ _ line fault. IsRefused secret line fault)) lines
-good_lines secret [] records = tt
-good_lines secret (line ∷ lines) records = (good_line secret line records.0, good_lines secret lines records.1)
+good_lines : (lines : List (List ℕ)) → AllByRecursion IsRecord lines → AllByRecursion (IsGood {S = List (List Entry)} (λ _ line fault. IsRefused line fault)) lines
+good_lines [] records = tt
+good_lines (line ∷ lines) records = (good_line line records.0, good_lines lines records.1)
 
 -- which ending has which status
 ended_done : (end : Ending LineFault) → status_of end ≡ ended.Done → end ≡ ending.Done
@@ -158,7 +157,7 @@ module _ {S O : Type 0} (left : S → Option (List ℕ)) (ends reads : S → ℕ
   -- all that is promised of a replay follows from its run and the causes of its ending
   pub replay_run : (secret : Secret) (input input' : S) (out out' : O) (old new : Replay) (end : Ending LineFault)
       → old.secret ≡ secret → old.bucket.settings ≡ usual_settings → StandsFor [] old.bucket
-      → RunsLines (Rose (ends input) (ends input') × IsAtEnd (left input')) Follows (λ (s : Replay) line fault. IsRefused s.secret line fault) (λ _. Unit {0}) (λ _ _. ⊥)
+      → RunsLines (Rose (ends input) (ends input') × IsAtEnd (left input')) Follows (λ _ line fault. IsRefused line fault) (λ _. Unit {0}) (λ _ _. ⊥)
       (left input) (left input') (written out) (written out') old new end
       → (end ≡ ending.Done → Rose (ends input) (ends input')) → (end ≡ ending.ReadFault → Rose (reads input) (reads input')) → (end ≡ ending.WriteFault → Rose (writes out) (writes out'))
       → ReplayRun left ends reads written writes secret input input' out out' (status_of end)
@@ -173,10 +172,10 @@ module _ {S O : Type 0} (left : S → Option (List ℕ)) (ends reads : S → ℕ
           no_words = ended_words end;
         };
         complete = λ bytes known few records reads_well writes_well.
-            let Known : Option (List ℕ) → Type 0 = λ x. RunsLines (Rose (ends input) (ends input') × IsAtEnd (left input')) (IsAnswered secret usual_settings) (λ _ line fault. IsRefused secret line fault) (λ _. Unit {0}) (λ _ _. ⊥)
+            let Known : Option (List ℕ) → Type 0 = λ x. RunsLines (Rose (ends input) (ends input') × IsAtEnd (left input')) (IsAnswered secret usual_settings) (λ _ line fault. IsRefused line fault) (λ _. Unit {0}) (λ _ _. ⊥)
             x (left input') (written out) (written out') no_calls lawful.0 end in
-            elim (complete (Rose (ends input) (ends input')) (IsAnswered secret usual_settings) (λ _ line fault. IsRefused secret line fault) (λ _. Unit {0}) (λ _ _. ⊥)
-            bytes (left input') (written out) (written out') no_calls lawful.0 end (good_lines secret (all_lines bytes) records) few (λ s fault h. h)
+            elim (complete (Rose (ends input) (ends input')) (IsAnswered secret usual_settings) (λ _ line fault. IsRefused line fault) (λ _. Unit {0}) (λ _ _. ⊥)
+            bytes (left input') (written out) (written out') no_calls lawful.0 end (good_lines (all_lines bytes) records) few (λ s fault h. h)
             (λ e. reads_well (read_fault e)) (λ e. writes_well (write_fault e)) (subst Known known lawful.1)) [
               | inl e ↦ inl (ap status_of e)
               | inr e ↦ inr (ap status_of e)

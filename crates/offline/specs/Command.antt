@@ -12,10 +12,10 @@ use Rattle.ot_io.specs.Counts.{Rose}
 use Rattle.ot_io.specs.declared.status.LineFault.{LineFault}
 use Rattle.ot_io.specs.declared.status.Status.{Status}
 use Rattle.ot_io.specs.declared.status.Status.TheVariants as ended
-use Rattle.offline.specs.Records.{line_plan}
 use Rattle.offline.specs.Replay.{IsAnswered, IsRefused, no_calls, usual_settings}
 use Rattle.offline.specs.declared.command.Offline.{Offline}
 use Rattle.offline.specs.declared.command.Offline.TheVariants.{Replay}
+use Rattle.trace_text.specs.Trace.{line_of}
 use Rattle.tracker_model.specs.declared.entry.Entry.{Entry}
 
 abbrev pub secret_of : Offline → Secret
@@ -32,8 +32,8 @@ status_of ending.WriteFault = ended.WriteFault
 status_of ending.NoMemory = ended.NoMemory
 
 -- a line that is a record of the trace, whatever comes of it
-abbrev pub IsRecord : Secret → List ℕ → Type 0
-IsRecord secret line = (length line ≤ line_limit) × IsOk (line_plan secret line)
+abbrev pub IsRecord : List ℕ → Type 0
+IsRecord line = (length line ≤ line_limit) × IsOk (line_of line)
 
 -- What is seen of the outside of a run: of the input the bytes that are left, where it tells them,
 -- and its counts of ends and faults; of the output what was written, where it tells it, and its
@@ -58,16 +58,16 @@ module _ {S O : Type 0} (left : S → Option (List ℕ)) (ends reads : S → ℕ
     pub histories : List (List Entry)
     pub run :
         RunsLines (Rose (ends input) (ends input') × IsAtEnd (left input'))
-        (IsAnswered secret usual_settings) (λ _ line fault. IsRefused secret line fault)
+        (IsAnswered secret usual_settings) (λ _ line fault. IsRefused line fault)
         (λ _. Unit {0}) (λ _ _. ⊥)
         (left input) (left input') (written out) (written out') no_calls histories end
 
   -- An input that tells its bytes, all of whose lines are records, and fewer than 2^40 bytes, is
   -- answered to its end, but for want of memory, where neither input nor output fails.
-  abbrev pub IsComplete : Secret → S → S → O → O → Status → Type 0
-  IsComplete secret input input' out out' status =
+  abbrev pub IsComplete : S → S → O → O → Status → Type 0
+  IsComplete input input' out out' status =
       (bytes : List ℕ) → left input ≡ Some bytes → length bytes ≤ read_limit
-      → AllByRecursion (IsRecord secret) (all_lines bytes)
+      → AllByRecursion IsRecord (all_lines bytes)
       → (Rose (reads input) (reads input') → ⊥) → (Rose (writes out) (writes out') → ⊥)
       → (status ≡ ended.Done) ⊎ (status ≡ ended.NoMemory)
 
@@ -76,4 +76,4 @@ module _ {S O : Type 0} (left : S → Option (List ℕ)) (ends reads : S → ℕ
       : Type 0 where
     pub replays : Replays secret input input' out out' status
     pub caused : IsCaused input input' out out' status
-    pub complete : IsComplete secret input input' out out' status
+    pub complete : IsComplete input input' out out' status

@@ -1,35 +1,53 @@
 -- What a line of a trace asks of the tracker, and what is written for it.
-use Rattle.std.specs.Prelude.{ℕ, List, [], ◌∷◌, ◌++◌, Option, Some, Result, Ok, Err, codes}
+use Rattle.std.specs.Prelude.{◌≡◌, ℕ, false, List, [], ◌∷◌, ◌++◌, Option, Some, None, Ok, codes}
 use Rattle.std.specs.Option.{option_map}
 use Rattle.hex.specs.Hex.{encode_lower}
 use Rattle.ot_base.specs.Minute.{minute_at}
-use Rattle.ot_base.specs.declared.fault.TraceFault.{TraceFault}
 use Rattle.ot_base.specs.declared.hash.Secret.{Secret}
 use Rattle.ot_base.specs.declared.minute.Minute.{Minute}
 use Rattle.lines.specs.Text.{line_end}
-use Rattle.tracker_core.specs.UdpPlan.{udp_plan}
+use Rattle.tracker_core.specs.ConnectionPlan.{IsConnectionPlan, connection_calls}
+use Rattle.tracker_core.specs.HttpText.{connection_text}
+use Rattle.tracker_core.specs.UdpPlan.{calls_of, udp_plan}
 use Rattle.tracker_core.specs.UdpText.{udp_text}
+use Rattle.tracker_core.specs.declared.connection_plan.ConnectionPlan.{ConnectionPlan}
+use Rattle.tracker_core.specs.declared.connection_plan.ConnectionPlan.TheVariants.{More, Rejected, Planned}
 use Rattle.tracker_core.specs.declared.udp_plan.UdpPlan.{UdpPlan}
 use Rattle.tracker_core.specs.declared.udp_plan.UdpPlan.TheVariants.{Silent, Connected, Refused, Announce, Scrape}
 use Rattle.tracker_model.specs.declared.answer.Answer.{Answer}
-use Rattle.trace_text.specs.Trace.{Record, line_of}
+use Rattle.tracker_model.specs.declared.call.Call.{Call}
+use Rattle.trace_text.specs.Trace.{line_of}
+use Rattle.trace_text.specs.declared.line.TraceLine.{TraceLine}
+use Rattle.trace_text.specs.declared.line.TraceLine.TheVariants.{Udp, Http}
 use Rattle.udp_wire.specs.Packets.{request_of}
 use Rattle.udp_wire.specs.declared.request.Quiet.{Quiet}
 use Rattle.udp_wire.specs.declared.request.Quiet.TheVariants as quiet
 
--- a record's minute, and the plan of its datagram then
-abbrev pub record_plan : Secret → Record → Minute × UdpPlan
-record_plan secret record' =
-    let minute = minute_at record'.seconds in
-    (minute, udp_plan secret record'.from minute (request_of record'.bytes))
+-- what is to be done for a record: for a datagram, or for what came on a connection until its end
+pub data RecordPlan : Type 0 where
+  datagram : UdpPlan → RecordPlan
+  connection : ConnectionPlan → RecordPlan
 
--- the same of a line, or the fault of the line
-abbrev pub planned : Secret → Result Record TraceFault → Result (Minute × UdpPlan) TraceFault
-planned secret (Ok record') = Ok (record_plan secret record')
-planned secret (Err fault) = Err fault
+-- a record's minute, and its plan then. No full scrape is answered
+abbrev pub IsRecordPlan : Secret → TraceLine → Minute → RecordPlan → Type 0
+IsRecordPlan secret (Udp seconds from bytes) minute (datagram plan) =
+    (minute ≡ minute_at seconds) × (plan ≡ udp_plan secret from minute (request_of bytes))
+IsRecordPlan secret (Http seconds from bytes) minute (connection plan) =
+    (minute ≡ minute_at seconds) × IsConnectionPlan bytes from false plan
+IsRecordPlan secret (Udp seconds from bytes) minute (connection plan) = ⊥
+IsRecordPlan secret (Http seconds from bytes) minute (datagram plan) = ⊥
 
-abbrev pub line_plan : Secret → List ℕ → Result (Minute × UdpPlan) TraceFault
-line_plan secret line = planned secret (line_of line)
+-- the same of a line
+pub record IsLinePlan (secret : Secret) (line : List ℕ) (minute : Minute) (plan : RecordPlan)
+    : Type 0 where
+  pub recorded : TraceLine
+  pub read : line_of line ≡ Ok recorded
+  pub planned : IsRecordPlan secret recorded minute plan
+
+-- the calls that a plan makes, in order
+abbrev pub record_calls : RecordPlan → List Call
+record_calls (datagram plan) = calls_of plan
+record_calls (connection plan) = connection_calls plan
 
 -- why a datagram has no reply, in a word
 abbrev pub quiet_word : Quiet → List ℕ
@@ -46,14 +64,36 @@ reply_line reply = codes "R " ++ encode_lower reply ++ line_end ∷ []
 abbrev pub silent_line : Quiet → List ℕ
 silent_line quiet = codes "S " ++ quiet_word quiet ++ line_end ∷ []
 
--- the output line of a record whose plan's calls have these answers; want of memory has none
-abbrev pub output_line : UdpPlan → List Answer → Option (List ℕ)
-output_line (Silent quiet) answers = Some (silent_line quiet)
-output_line (Connected transaction connection) answers =
-    option_map reply_line (udp_text (Connected transaction connection) answers)
-output_line (Refused transaction why) answers =
+-- the output line of a connection that ended before a head
+abbrev pub cut_line : List ℕ
+cut_line = codes "S cut" ++ line_end ∷ []
+
+-- the output line of what a connection is sent, if it is sent anything
+abbrev pub sent_line : Option (List ℕ) → List ℕ
+sent_line None = cut_line
+sent_line (Some reply) = reply_line reply
+
+-- the output line of a datagram whose plan's calls have these answers; want of memory has none
+abbrev pub datagram_output : UdpPlan → List Answer → Option (List ℕ)
+datagram_output (Silent quiet) answers = Some (silent_line quiet)
+datagram_output (Connected transaction connection') answers =
+    option_map reply_line (udp_text (Connected transaction connection') answers)
+datagram_output (Refused transaction why) answers =
     option_map reply_line (udp_text (Refused transaction why) answers)
-output_line (Announce transaction call) answers =
+datagram_output (Announce transaction call) answers =
     option_map reply_line (udp_text (Announce transaction call) answers)
-output_line (Scrape transaction hashes) answers =
+datagram_output (Scrape transaction hashes) answers =
     option_map reply_line (udp_text (Scrape transaction hashes) answers)
+
+-- the output line of a connection, by its plan, likewise
+abbrev pub connection_output : ConnectionPlan → List Answer → Option (List ℕ)
+connection_output More answers = Some cut_line
+connection_output (Rejected code) answers =
+    option_map reply_line (connection_text (Rejected code) answers)
+connection_output (Planned plan) answers =
+    option_map reply_line (connection_text (Planned plan) answers)
+
+-- the output line of a record
+abbrev pub output_line : RecordPlan → List Answer → Option (List ℕ)
+output_line (datagram plan) answers = datagram_output plan answers
+output_line (connection plan) answers = connection_output plan answers

@@ -11,7 +11,8 @@ ghost use Rattle.udp_wire.specs.Packets.{scrape_reply};
 ghost use Rattle.tracker_model.specs.declared.call.Call.TheVariants as call;
 ghost use Rattle.tracker_model.specs.declared.answer.Answer.TheVariants as answer;
 ghost use Rattle.tracker_model.specs.declared.entry.Entry.{Entry};
-ghost use Rattle.offline.specs.Outcome.{CarriesOut, HasRoom, IsReportAnswer, IsReportOutcome, Scrapes};
+ghost use Rattle.offline.specs.Outcome.{CarriesOut, HasRoom, IsReportAnswer, IsReportOutcome};
+ghost use Rattle.offline.specs.Outcome.{Scrapes};
 
 use bucket::Bucket;
 use ot_base::{CountList, Counts, Hashes, InfoHash, Minute};
@@ -20,7 +21,7 @@ use tracker_model::{Answer, Call};
 use udp_wire::{Quiet, REPLY_ROOM, write_connect, write_error, write_scrape};
 
 /// The words by which peers are chosen. No bucket reads them yet.
-const NO_WORDS: [u32; 200] = [0; 200];
+pub const NO_WORDS: [u32; 200] = [0; 200];
 
 /// What came of a plan.
 #[derive(Clone, Copy, Debug, PartialEq, Eq)]

@@ -4,6 +4,7 @@
 
 mod carry_out;
 pub mod command;
+mod connection;
 mod output;
 mod replay;
 #[cfg(test)]

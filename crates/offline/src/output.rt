@@ -1,13 +1,20 @@
 //! The output line of a record.
 
-ghost use Rattle.std.specs.Prelude.{◌≡◌, ◌≤◌, ◌*◌, ◌↔◌, List, Some, IfSome, IsNone, length, take};
+ghost use Rattle.std.specs.Prelude.{◌≡◌, ◌≤◌, ◌*◌, ◌↔◌, ◌++◌, List, Some, IfSome, IsNone, OnOk};
+ghost use Rattle.std.specs.Prelude.{OnErr, length, take};
 ghost use Rattle.hex.specs.Hex.{encode_lower};
 ghost use Rattle.tracker_core.specs.declared.udp_plan.UdpPlan.{UdpPlan};
 ghost use Rattle.tracker_model.specs.declared.answer.Answer.{Answer};
 ghost use Rattle.offline.specs.Outcome.{HasRoom, IsOutcome};
-ghost use Rattle.offline.specs.Records.{output_line, reply_line, silent_line};
+ghost use Rattle.offline.specs.Records.{datagram_output, reply_line, sent_line, silent_line};
+ghost use Rattle.lines.specs.Replies.{Adds, Loses};
+ghost use Rattle.lines.specs.Streams.{IsLaterSink};
+ghost use Rattle.ot_io.specs.Counts.{Rose};
 
 use crate::carry_out::Outcome;
+use lines::{Replies, WriteFault};
+use ot_base::Bytes;
+use ot_io::Sink;
 use udp_wire::{Quiet, REPLY_ROOM};
 
 /// How many bytes an output line has at most: two before the digits, two digits a byte, and the
@@ -24,7 +31,7 @@ pub fn write_outcome(
     requires { HasRoom outcome }
     ensures line { (plan : UdpPlan) (answers : List Answer) →
         IsOutcome plan answers reply.now outcome →
-        IfSome result (λ len. output_line plan answers ≡ Some (take len out.new)) }
+        IfSome result (λ len. datagram_output plan answers ≡ Some (take len out.new)) }
     ensures fits { IfSome result (λ len. len ≤ OUTPUT_ROOM) }
     ensures none { IsNone result ↔ (outcome ≡ Outcome.NoMemory) }
 {
@@ -70,4 +77,68 @@ fn encode_digits(bytes: &[u8], digits: &mut [u8])
     ensures { digits.new ≡ encode_lower bytes.now }
 {
     let _ = hex::encode_to_slice(bytes, digits);
+}
+
+/// Adds the output line of what a connection was sent.
+pub fn add_sent_line<O: Sink>(
+    replies: &mut Replies,
+    out: &mut O,
+    sent: &Option<Bytes>,
+    room: &mut [u8; OUTPUT_ROOM],
+) -> Result<(), WriteFault>
+    ensures added { OnOk result (Adds (O.written out.old) (O.written out.new)
+        replies.old replies.new (sent_line sent.now)) }
+    ensures lost { OnErr result (Loses (O.written out.old) (O.written out.new)
+        (replies.old ++ sent_line sent.now)) }
+    ensures fault { OnErr result (Rose (O.faults out.old) (O.faults out.new)) }
+    ensures later { IsLaterSink O.faults O.aside out.old out.new }
+{
+    match sent {
+        Some(reply) => add_reply_line(replies, out, reply.as_slice(), room),
+        None => replies.add(out, b"S cut\n"),
+    }
+}
+
+/// Adds the output line of a reply of any length, piece by piece.
+fn add_reply_line<O: Sink>(
+    replies: &mut Replies,
+    out: &mut O,
+    reply: &[u8],
+    room: &mut [u8; OUTPUT_ROOM],
+) -> Result<(), WriteFault>
+    ensures added { OnOk result (Adds (O.written out.old) (O.written out.new)
+        replies.old replies.new (reply_line reply.now)) }
+    ensures lost { OnErr result (Loses (O.written out.old) (O.written out.new)
+        (replies.old ++ reply_line reply.now)) }
+    ensures fault { OnErr result (Rose (O.faults out.old) (O.faults out.new)) }
+    ensures later { IsLaterSink O.faults O.aside out.old out.new }
+{
+    replies.add(out, b"R ")?;
+    add_digits(replies, out, reply, room)?;
+    replies.add(out, b"\n")
+}
+
+/// Adds bytes as lower-case hex digits, piece by piece.
+fn add_digits<O: Sink>(
+    replies: &mut Replies,
+    out: &mut O,
+    bytes: &[u8],
+    room: &mut [u8; OUTPUT_ROOM],
+) -> Result<(), WriteFault>
+    ensures added { OnOk result (Adds (O.written out.old) (O.written out.new)
+        replies.old replies.new (encode_lower bytes.now)) }
+    ensures lost { OnErr result (Loses (O.written out.old) (O.written out.new)
+        (replies.old ++ encode_lower bytes.now)) }
+    ensures fault { OnErr result (Rose (O.faults out.old) (O.faults out.new)) }
+    ensures later { IsLaterSink O.faults O.aside out.old out.new }
+{
+    let mut rest = bytes;
+    while !rest.is_empty() {
+        let (piece, after) = rest.split_at(rest.len().min(REPLY_ROOM));
+        let digits = &mut room[..2 * piece.len()];
+        encode_digits(piece, digits);
+        replies.add(out, digits)?;
+        rest = after;
+    }
+    Ok(())
 }

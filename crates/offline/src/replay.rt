@@ -5,14 +5,15 @@ ghost use Rattle.tracker_model.specs.Stands.{StandsFor};
 ghost use Rattle.offline.specs.Replay.{usual_settings};
 
 use crate::carry_out::carry_out;
-use crate::output::{OUTPUT_ROOM, write_outcome};
+use crate::connection::serve;
+use crate::output::{OUTPUT_ROOM, add_sent_line, write_outcome};
 use bucket::Bucket;
 use lines::{Replies, Responder, Trouble};
 use ot_base::{Limits, Minute, Secret};
 use ot_io::{LineFault, Sink};
 use std::alloc::{AllocError, Global};
-use trace_text::{DATAGRAM_BYTES, read_datagram};
-use tracker_core::plan_udp;
+use trace_text::{DATAGRAM_BYTES, RECORD_BYTES, Received, Record, read_record};
+use tracker_core::{plan_connection, plan_udp};
 use udp_wire::REPLY_ROOM;
 
 /// How much the tracker of a replay holds.
@@ -26,11 +27,12 @@ const LIMITS: Limits = Limits {
 pub struct Replay {
     pub secret: Secret,
     pub bucket: Bucket,
-    /// Where the datagram of a record is put.
-    datagram: [u8; DATAGRAM_BYTES],
-    /// Where the reply to it is put.
+    alloc: Global,
+    /// Where the bytes of a record are put.
+    bytes: [u8; RECORD_BYTES],
+    /// Where the reply to a datagram is put.
     reply: [u8; REPLY_ROOM],
-    /// Where the record's output line is put.
+    /// Where the record's output line is put, or a piece of it.
     output: [u8; OUTPUT_ROOM],
     ghost sync_is_off: { bucket.settings.sync ≡ false },
 }
@@ -44,7 +46,8 @@ impl Replay {
         Ok(Replay {
             secret,
             bucket: Bucket::new(alloc, LIMITS, false)?,
-            datagram: [0; DATAGRAM_BYTES],
+            alloc,
+            bytes: [0; RECORD_BYTES],
             reply: [0; REPLY_ROOM],
             output: [0; OUTPUT_ROOM],
         })
@@ -52,14 +55,13 @@ impl Replay {
 }
 
 impl Responder for Replay {
-    ghost use Rattle.offline.specs.Follows.{Follows};
-    ghost use Rattle.offline.specs.Replay.{IsRefused};
+    ghost use Rattle.offline.specs.Follows.{Follows, RefusesLine};
 
     type Fault = LineFault;
 
     ghost answers = { Follows };
 
-    ghost refuses = { λ old line fault. IsRefused old.secret line fault };
+    ghost refuses = { RefusesLine };
 
     fn respond<O: Sink>(
         &mut self,
@@ -67,13 +69,48 @@ impl Responder for Replay {
         replies: &mut Replies,
         out: &mut O,
     ) -> Result<(), Trouble<LineFault>> {
-        let record = match read_datagram(line, &mut self.datagram) {
-            Ok(record) => record,
-            Err(fault) => return Err(Trouble::Refused(LineFault::Trace(fault))),
-        };
-        let minute = Minute::of_seconds(record.seconds);
-        let bytes = &self.datagram[..record.len];
-        let plan = plan_udp(bytes, record.from, minute, &self.secret);
+        match read_record(line, &mut self.bytes) {
+            Ok(Record::Datagram(received)) => self.answer_datagram(received, replies, out),
+            Ok(Record::Connection(received)) => self.answer_connection(received, replies, out),
+            Err(fault) => Err(Trouble::Refused(LineFault::Trace(fault))),
+        }
+    }
+
+    fn end(&self) -> Result<(), LineFault> {
+        Ok(())
+    }
+}
+
+impl Replay {
+    ghost use Rattle.std.specs.Prelude.{◌≤◌, ℕ, Err, List, Ok};
+    ghost use Rattle.ot_base.specs.Address.{family_of};
+    ghost use Rattle.ot_base.specs.declared.address.Family.TheVariants.{Four};
+    ghost use Rattle.ot_io.specs.Counts.{Rose};
+    ghost use Rattle.lines.specs.Responses.{Responds};
+    ghost use Rattle.lines.specs.Streams.{IsLaterSink};
+    ghost use Rattle.trace_text.specs.Trace.{line_in, line_of};
+    ghost use Rattle.offline.specs.Follows.{Follows, RefusesLine};
+
+    /// Adds the output line of a datagram, whose bytes stand at the front of the record's.
+    fn answer_datagram<O: Sink>(
+        &mut self,
+        received: Received,
+        replies: &mut Replies,
+        out: &mut O,
+    ) -> Result<(), Trouble<LineFault>>
+        requires four { family_of received.from.addr ≡ Four }
+        requires fits { received.len ≤ DATAGRAM_BYTES }
+        ensures responds { (line : List ℕ) →
+            line_of line ≡ Ok (line_in (Record.Datagram received) self.old.bytes) →
+            Responds Follows RefusesLine self.old self.new line
+            (O.written out.old) (O.written out.new) replies.old replies.new result }
+        ensures fault { result ≡ Err Trouble.WriteFault
+            → Rose (O.faults out.old) (O.faults out.new) }
+        ensures later { IsLaterSink O.faults O.aside out.old out.new }
+    {
+        let minute = Minute::of_seconds(received.seconds);
+        let bytes = &self.bytes[..received.len];
+        let plan = plan_udp(bytes, received.from, minute, &self.secret);
         let outcome = carry_out(&mut self.bucket, minute, &plan, &mut self.reply);
         let Some(len) = write_outcome(outcome, &self.reply, &mut self.output) else {
             return Err(Trouble::NoMemory);
@@ -82,7 +119,28 @@ impl Responder for Replay {
         Ok(())
     }
 
-    fn end(&self) -> Result<(), LineFault> {
+    /// Adds the output line of a connection, whose bytes stand at the front of the record's.
+    fn answer_connection<O: Sink>(
+        &mut self,
+        received: Received,
+        replies: &mut Replies,
+        out: &mut O,
+    ) -> Result<(), Trouble<LineFault>>
+        requires four { family_of received.from.addr ≡ Four }
+        requires fits { received.len ≤ RECORD_BYTES }
+        ensures responds { (line : List ℕ) →
+            line_of line ≡ Ok (line_in (Record.Connection received) self.old.bytes) →
+            Responds Follows RefusesLine self.old self.new line
+            (O.written out.old) (O.written out.new) replies.old replies.new result }
+        ensures fault { result ≡ Err Trouble.WriteFault
+            → Rose (O.faults out.old) (O.faults out.new) }
+        ensures later { IsLaterSink O.faults O.aside out.old out.new }
+    {
+        let minute = Minute::of_seconds(received.seconds);
+        let bytes = &self.bytes[..received.len];
+        let plan = plan_connection(self.alloc, bytes, received.from, false)?;
+        let sent = serve(self.alloc, &mut self.bucket, minute, &plan)?;
+        add_sent_line(replies, out, &sent, &mut self.output)?;
         Ok(())
     }
 }

@@ -6,6 +6,7 @@ use ot_base::{Secret, TraceFault};
 use ot_io::{LineFault, MemSink, MemSource, ReplaySettings, Status};
 use std::test::Fail;
 
+mod connections;
 mod datagrams;
 
 const TRACE: &str = "U 0 192.0.2.1 5000 00000417271019800000000012345678
@@ -68,7 +69,8 @@ fn each_bad_line_is_told_and_keeps_what_was_answered(rt: HostRuntime) -> Result<
         ("U 0 192.0.2.1 5000", TraceFault::Form, "form"),
         ("X 0 192.0.2.1 5000 00", TraceFault::Form, "form"),
         ("C 0", TraceFault::Unbuilt, "unbuilt"),
-        ("H x y z ?", TraceFault::Unbuilt, "unbuilt"),
+        ("H x y z ?", TraceFault::Number, "number"),
+        ("H 0 192.0.2.1 5000 4", TraceFault::Hex, "hex"),
         (
             "U 18446744073709551616 192.0.2.1 5000 00",
             TraceFault::Number,

@@ -1,0 +1,24 @@
+use Rattle.std.proofs.Common.{[], take, refl, inl}
+use Rattle.lines.proofs.ReplyLemmas.{Adds-none}
+use Rattle.trace_text.specs.Trace.{arrival_in}
+use Rattle.offline.specs.Follows.{Follows, RefusesLine}
+use Rattle.offline.proofs.Following.{follows_datagram, write_failed}
+use Rattle.offline.proofs.replay.Replay.answer_datagram.Goals as goal
+
+pub returns-in_default-clause-responds : goal.returns-in_default-clause-responds
+returns-in_default-clause-responds g c = λ line read. ([], inl refl, Adds-none _ c.args.replies.now)
+
+pub returns-in_err-add-clause-responds : goal.returns-in_err-add-clause-responds
+returns-in_err-add-clause-responds g c = λ line read.
+    write_failed Follows RefusesLine c.args.self.now _ line (take c.in-Some.len c.write_outcome.new.out) _ _ c.args.replies.now c.add.new.self c.from_residual.result c.from_residual.ensures.1
+    (follows_datagram c.args.self.now _ line _ (arrival_in c.args.received c.args.self.now.bytes) c.of_seconds-minute.result c.plan_udp-plan.result c.carry_out-outcome.new.reply c.carry_out-outcome.result
+    read c.of_seconds-minute.ensures c.plan_udp-plan.ensures.planned refl c.carry_out-outcome.ensures.settings c.carry_out-outcome.ensures.carried (c.in-Some.ensures.line c.plan_udp-plan.result))
+    c.in_err-add.ensures.lost
+
+pub returns-clause-responds : goal.returns-clause-responds
+returns-clause-responds g c = λ line read. (
+  take c.in-Some.len c.write_outcome.new.out,
+  follows_datagram c.args.self.now _ line _ (arrival_in c.args.received c.args.self.now.bytes) c.of_seconds-minute.result c.plan_udp-plan.result c.carry_out-outcome.new.reply c.carry_out-outcome.result
+      read c.of_seconds-minute.ensures c.plan_udp-plan.ensures.planned refl c.carry_out-outcome.ensures.settings c.carry_out-outcome.ensures.carried (c.in-Some.ensures.line c.plan_udp-plan.result),
+  c.in_ok-add.ensures.added,
+)
