@@ -1,0 +1,5 @@
+pub mod Shape
+pub mod Histories
+pub mod Rule
+pub mod Plays
+pub mod Seats
