@@ -1,13 +1,23 @@
-pub mod AnnounceLaw
-pub mod CallLaw
-pub mod Families
-pub mod Joining
-pub mod KeptLemmas
-pub mod Keyed
-pub mod Places
-pub mod RightLemmas
-pub mod StopLemmas
-pub mod StopLaw
-pub mod ToldLemmas
-pub mod TorrentLemmas
-pub mod TidyLaw
+mod Asking
+mod CallLaws
+mod CallLemmas
+mod Families
+mod LivePeers
+mod Judging
+mod KeptLemmas
+mod Looked
+mod OrderLemmas
+mod Settling
+mod ToldLemmas
+mod DropLemmas
+mod ForgetLemmas
+mod FoundLemmas
+mod FreshLemmas
+mod Indexed
+mod IndexLemmas
+mod JoinLemmas
+mod PlaceLemmas
+mod PutLemmas
+mod RowLemmas
+mod SoundLemmas
+mod TableLemmas

@@ -1,61 +1,53 @@
 //! A bucket.
 
-ghost use Rattle.std.specs.Prelude.{◌≡◌, [], ◌∷◌, ◌++◌, IfOk, true, false, List, length, sum_by};
-ghost use Rattle.tracker_model.specs.Calls.{IsWellFormed, is_request};
+ghost use Rattle.std.specs.Prelude.{◌≡◌, ◌≤◌, [], ◌∷◌, ◌++◌, IfOk, true, false, List, length, max, sum_by};
+ghost use Rattle.tracker_model.specs.Calls.{IsWellFormed};
 ghost use Rattle.tracker_model.specs.Kinds.{IsKindOf};
 ghost use Rattle.tracker_model.specs.Settings.{AreLimits};
 ghost use Rattle.tracker_model.specs.Shape.{peers_of};
 ghost use Rattle.tracker_model.specs.Stands.{StandsFor};
+ghost use Rattle.tracker_model.specs.declared.answer.Answer.TheVariants.{Stats};
+ghost use Rattle.tracker_model.specs.declared.call.Call.TheVariants.{Scrape};
 ghost use Rattle.tracker_model.specs.declared.entry.Entry.{Entry};
+ghost use Rattle.tracker_model.specs.declared.limits.TheConstants.{TORRENT_MINUTES};
+ghost use Rattle.bucket.specs.Public.{IsChosen, IsCleaned, KeepsOrder, is_own};
+ghost use Rattle.bucket.specs.Table.{pairs_of};
 
-use crate::join::announce;
-use crate::stored::{Joining, Stored};
-use crate::table::{scrape, stop};
-use ot_base::{Counts, Limits, Minute, Peers};
+use crate::calls::{announce, clean, scrape, stop};
+use crate::joining::Joining;
+use crate::torrents::Torrents;
+use age_ring::AgeRing;
+use ot_base::{Counts, InfoHash, Limits, Minute, Peers};
 use std::alloc::{AllocError, Global};
-use std::marker::Model;
+use std::marker::{Brand, Model};
+use std::sync::ledger::Blank;
 use tracker_model::{Answer, Call};
-
-/// The counts of a torrent that isn't known.
-const NO_COUNTS: Counts = Counts {
-    complete: 0,
-    downloaded: 0,
-    incomplete: 0,
-};
 
 /// One bucket of a tracker: the torrents of a part of all hashes, with their peers.
 #[derive(Drop)]
 pub struct Bucket {
-    limits: Limits,
     sync: bool,
-    time: Minute,
-    torrents: Vec<Stored>,
+    torrents: Torrents,
 }
 
 impl Model for Bucket {
     ghost use Rattle.std.specs.Prelude.{[]};
     ghost use Rattle.tracker_model.specs.Shape.{Shape};
-    ghost use Rattle.tracker_model.specs.Settings.{AreLimits};
-    ghost use Rattle.bucket.specs.Torrents.{AreWithin};
-    ghost use Rattle.tracker_model.specs.Stands.{AreTidy};
 
     ghost Value = { Shape };
 
     ghost view = { λ b. record {
-      settings = record { limits = b.limits; sync = b.sync };
-      time = b.time.0;
-      torrents = b.torrents.items;
+      settings = record { limits = b.torrents.limits; sync = b.sync };
+      time = b.torrents.time;
+      torrents = b.torrents.torrents;
       notes = [];
       dropped = 0;
     } };
-
-    ghost invariant = { λ b.
-        AreLimits b.limits × AreWithin b.limits b.torrents.items × AreTidy b.torrents.items };
 }
 
 impl Bucket {
-    /// A bucket of which nothing has been asked, with limits from 1 to 1,000,000. It begins with
-    /// empty lists, so as it is kept today want of memory isn't answered.
+    /// A bucket of which nothing has been asked, with limits from 1 to 1,000,000. Of memory it takes
+    /// four bytes for each minute of a day.
     pub fn new(alloc: Global, limits: Limits, sync: bool) -> Result<Self, AllocError>
         requires { AreLimits limits }
         ensures settings { IfOk result (λ bucket. bucket.settings ≡
@@ -64,30 +56,35 @@ impl Bucket {
         ensures empty { IfOk result (λ bucket. bucket.torrents ≡ []) }
     {
         Ok(Bucket {
-            limits,
             sync,
-            time: Minute(0),
-            torrents: Vec::new(alloc),
+            torrents: Torrents::new(alloc, limits)?,
         })
     }
 
-    /// Answers an announce, a stop or a scrape. A caller is only named by its number. For every
-    /// history that the bucket stood for, it stands afterwards for that history with this entry, so
-    /// the answer is right after it. Of the other peers the first ones are told; `words` don't
-    /// choose among them yet. A stop and a scrape want no memory.
+    /// Answers an announce, a stop, a scrape, a scan or a cleaning. A caller is only named by its
+    /// number. For every history that the bucket stood for, it stands afterwards for that history
+    /// with this entry, so the answer is right after it. An announce is told the peers that `words`
+    /// choose, in the order that its torrent and family have then: an announce by one of the peers
+    /// leaves that order where all of them are live. After a cleaning all that is stored is live and
+    /// known. A stop, a scrape and a cleaning want no memory.
+    ///
+    /// Only a scan and a cleaning look at all torrents. What the others cost doesn't grow with what
+    /// is stored, but for look-ups by hash and by endpoint, and for what ages out just then.
     pub fn call(&mut self, caller: u32, minute: Minute, call: Call, words: &[u32; 200]) -> Answer
         requires formed { IsWellFormed call }
         requires alone { self.old.settings.sync ≡ false }
-        requires answerable { is_request call ≡ true }
+        requires answerable { is_own call ≡ true }
         ensures settings { self.new.settings ≡ self.old.settings }
         ensures kind { IsKindOf self.old.settings call result }
         ensures stands { (history : List Entry) → StandsFor history self.old →
             StandsFor (history ++
             (record { caller = caller; minute = minute; call = call; answer = result }) ∷ [])
             self.new }
+        ensures chosen { IsChosen words.now self.new call result }
+        ensures order { KeepsOrder call self.old self.new }
+        ensures cleaned { IsCleaned call self.new }
     {
-        let now = Minute(minute.0.max(self.time.0));
-        self.time = now;
+        let now = self.at_least(minute);
         // Each arm returns: a value that leaves the match would be moved once more, and answers are
         // large.
         match call {
@@ -98,15 +95,23 @@ impl Bucket {
                 completed,
                 want,
             } => {
-                let joiner = Joining {
+                let joining = Joining {
                     hash,
                     who,
                     seed,
                     completed,
                 };
                 let mut peers = Peers::new();
-                let limits = self.limits;
-                let outcome = announce(&mut self.torrents, &limits, now, &joiner, want, &mut peers);
+                let limits = self.torrents.limits();
+                let outcome = announce::<Brand>(
+                    &mut self.torrents,
+                    now,
+                    &joining,
+                    want,
+                    words,
+                    &mut peers,
+                    Blank::new(1),
+                );
                 let counts = match outcome {
                     Ok(counts) => counts,
                     Err(error) => return error.answer(&limits),
@@ -115,36 +120,82 @@ impl Bucket {
             }
             Call::Stop { hash, who } => {
                 return Answer::Told {
-                    counts: stop(&mut self.torrents, now, &hash, &who).unwrap_or(NO_COUNTS),
+                    counts: stop::<Brand>(&mut self.torrents, now, &hash, &who, Blank::new(1)),
                     peers: Peers::new(),
                 };
             }
             Call::Scrape { hash } => {
-                let counts = scrape(&self.torrents, now, &hash);
-                return Answer::Stats {
-                    counts: counts.unwrap_or(NO_COUNTS),
-                    known: counts.is_some(),
+                let (counts, known) = scrape::<Brand>(
+                    &mut self.torrents,
+                    now,
+                    &hash,
+                    Blank::new(1),
+                );
+                return Answer::Stats { counts, known };
+            }
+            Call::Scan => {
+                clean::<Brand>(&mut self.torrents, now, Blank::new(1));
+                let rows = match self.torrents.rows() {
+                    Ok(rows) => rows,
+                    Err(_) => return Answer::NoMemory,
+                };
+                return Answer::Rows { rows };
+            }
+            Call::Clean => {
+                clean::<Brand>(&mut self.torrents, now, Blank::new(1));
+                return Answer::Cleaned {
+                    held: self.torrents.held(),
                 };
             }
-            Call::Scan | Call::Clean | Call::Sync { .. } | Call::Drain => unreachable!(),
+            Call::Sync { .. } | Call::Drain => unreachable!(),
         }
+    }
+
+    /// What `call` answers to a scrape, the torrent's counts and whether it is known, without the
+    /// room for an answer's peers.
+    pub fn scrape(&mut self, caller: u32, minute: Minute, hash: &InfoHash) -> (Counts, bool)
+        requires alone { self.old.settings.sync ≡ false }
+        ensures settings { self.new.settings ≡ self.old.settings }
+        ensures stands { (history : List Entry) → StandsFor history self.old →
+            StandsFor (history ++ (record {
+              caller = caller;
+              minute = minute;
+              call = Scrape hash.now;
+              answer = Stats result.0 result.1;
+            }) ∷ []) self.new }
+    {
+        let now = self.at_least(minute);
+        scrape::<Brand>(&mut self.torrents, now, hash, Blank::new(1))
     }
 
     /// The bucket's time: the greatest minute that it was handed, at first 0.
     pub fn time(&self) -> Minute
         ensures { result.0 ≡ self.now.time }
     {
-        self.time
+        self.torrents.time()
     }
 
     /// How many peers are stored over all torrents, those that are no longer live among them.
     pub fn held(&self) -> u64
         ensures { result ≡ sum_by (λ torrent. length (peers_of torrent)) self.now.torrents }
     {
-        let mut total = 0;
-        for torrent in &self.torrents {
-            total += torrent.len() as u64;
-        }
-        total
+        self.torrents.held()
+    }
+
+    /// The ring of the torrents, which has their hashes in order, each with the minute of its last
+    /// touch. Its time is at most the bucket's.
+    pub fn ring(&self) -> &AgeRing<InfoHash>
+        ensures pairs { result.now.pairs ≡ pairs_of self.now.torrents }
+        ensures time { result.now.time ≤ self.now.time }
+        ensures ages { result.now.ages ≡ TORRENT_MINUTES }
+    {
+        self.torrents.ring()
+    }
+
+    /// The bucket's time, once it was handed a minute.
+    fn at_least(&self, minute: Minute) -> Minute
+        ensures { result.0 ≡ max minute.0 self.now.time }
+    {
+        Minute(minute.0.max(self.torrents.time().0))
     }
 }

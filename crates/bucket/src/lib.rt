@@ -1,13 +1,16 @@
-//! One bucket of the tracker, as lists that are scanned from front to end: the plainest body, with
-//! which faster ones are compared.
+//! One bucket of the tracker: torrents and their peers. No call but a scan and a cleaning walks over
+//! what is stored: an index tells where a torrent stands, a ring which ones are forgotten, and each
+//! torrent has its own index, rings and running counts.
 #![tactic(auto)]
 
 pub mod bucket;
-mod join;
-mod peer_list;
+mod calls;
+mod changes;
+mod index;
+mod joining;
 mod stored;
-mod table;
 #[cfg(test)]
 mod tests;
+mod torrents;
 
 pub use bucket::Bucket;

@@ -1,197 +1,191 @@
-//! A stored torrent with its peers.
+//! What is stored of one torrent.
 
-ghost use Rattle.std.specs.Prelude.{◌≡◌, ◌<◌, ◌≤◌, ◌^◌, [], length, position, IfOk, OnOk, OnErr};
+ghost use Rattle.std.specs.Prelude.{◌≡◌, ℕ, ◌+◌, ◌<◌, ◌≤◌, ◌⊎◌, [], not, ◌&&◌, IfOk, IsSome, OnErr, OnOk, find, is_some, None, length, sum_by};
 ghost use Rattle.ot_base.specs.Address.{family_of};
-ghost use Rattle.ot_base.specs.Same.{same_hash, same_endpoint};
-ghost use Rattle.tracker_model.specs.Shape.{peers_of, is_known_in};
-ghost use Rattle.bucket.specs.Torrents.{new_torrent, of_family, without_stale, without_peer, counts_at, counts_if_known, other_endpoints, with_peer};
+ghost use Rattle.tracker_model.specs.Known.{is_seed};
+ghost use Rattle.tracker_model.specs.Steps.{one_more};
+ghost use Rattle.swarm.specs.Peers.{choice_of, is_of, other_one, place_of, put_peer, seed_one, without_peer};
+ghost use Rattle.swarm.specs.Shape.{of_family, peer_count, with_family};
+ghost use Rattle.swarm.specs.declared.members.TheConstants.{MOST_PEERS};
+ghost use Rattle.bucket.specs.Stored.{IsFit, IsTidySwarm, JoinsStored, PassesTo, empty_stored, put_stored, stood_as_seed};
 
-use crate::peer_list::{
-    drop_stale_in, leechers_in, place_in, put_in, seeds_in, take_out, tell_others, was_seed_at,
-};
-use ot_base::{Counts, Endpoint, Family, Held, InfoHash, Minute, Peers};
+use crate::joining::{JoinError, Joining};
+use node_table::Steps;
+use ot_base::{Counts, Endpoint, Family, Minute, Peers};
 use std::alloc::{AllocError, Global};
-use std::marker::Model;
-use tracker_model::{TORRENT_MINUTES, WANTED_PEERS};
+use std::sync::ledger::Ledger;
+use swarm::{Put, Swarm};
 
-/// An endpoint that takes part in a torrent.
-#[derive(Clone, Copy)]
-pub struct Joining {
-    pub hash: InfoHash,
-    pub who: Endpoint,
-    /// Whether it has all of the torrent.
-    pub seed: bool,
-    /// Whether it has just finished its download.
-    pub completed: bool,
-}
-
-/// A torrent with its peers, those of each family in the order in which they came.
+/// What is stored of a torrent beside its hash and its touch, which stand in the ring of all torrents.
 #[derive(Drop)]
 pub struct Stored {
-    pub hash: InfoHash,
-    /// When a peer last announced it.
-    pub touch: Minute,
+    /// How often it was downloaded since it is known, up to 4,294,967,295.
     pub downloaded: u32,
-    pub fours: Vec<Held>,
-    pub sixes: Vec<Held>,
-}
-
-impl Model for Stored {
-    ghost use Rattle.tracker_model.specs.Shape.{Torrent};
-
-    ghost Value = { Torrent };
-
-    ghost view = { λ s. record {
-      hash = s.hash;
-      touch = s.touch.0;
-      downloaded = s.downloaded;
-      fours = s.fours.items;
-      sixes = s.sixes.items;
-    } };
+    pub swarm: Swarm,
 }
 
 impl Stored {
-    /// A torrent in which an endpoint is the first to take part.
-    pub fn with_first(alloc: Global, now: Minute, joining: &Joining) -> Result<Self, AllocError>
-        ensures { IfOk result (λ torrent. torrent ≡
-            with_peer now.0 joining.now (new_torrent joining.now.hash)) }
-    {
-        let mut torrent = Stored::new(alloc, joining.hash);
-        torrent.put(now, joining, None)?;
-        Ok(torrent)
-    }
-
-    /// Whether it is the torrent of a hash.
-    pub fn is_of(&self, hash: &InfoHash) -> bool
-        ensures { result ≡ same_hash hash.now self.now.hash }
-    {
-        *hash == self.hash
-    }
-
-    /// Whether the torrent is known at a minute.
-    pub fn is_known_at(&self, now: Minute) -> bool
-        ensures { result ≡ is_known_in now.0 self.now }
-    {
-        now.0.saturating_sub(self.touch.0) < TORRENT_MINUTES
-    }
-
-    /// How many peers are stored.
-    pub fn len(&self) -> usize
-        requires { length (peers_of self.now) < 2 ^ 32 }
-        ensures { result ≡ length (peers_of self.now) }
-    {
-        self.fours.len() + self.sixes.len()
-    }
-
-    /// The place of an endpoint among the peers of its family.
-    pub fn place_of(&self, who: &Endpoint) -> Option<usize>
-        ensures { result ≡ position (λ held. same_endpoint who.now held.who)
-            (of_family (family_of who.now.addr) self.now) }
-    {
-        place_in(self.peers(who.addr.family()), who)
-    }
-
-    /// Drops the peers that aren't live at a minute.
-    pub fn drop_stale(&mut self, now: Minute)
-        ensures { self.new ≡ without_stale now.0 self.old }
-    {
-        drop_stale_in(&mut self.fours, now);
-        drop_stale_in(&mut self.sixes, now);
-    }
-
-    /// Takes an endpoint out, if it is one of the peers.
-    pub fn remove(&mut self, who: &Endpoint)
-        ensures { self.new ≡ without_peer who.now self.old }
-    {
-        take_out(&mut self.fours, who);
-        take_out(&mut self.sixes, who);
-    }
-
-    /// Lets an endpoint take part at its place, or as a new peer, which may want memory. Want of
-    /// memory changes nothing.
-    pub fn put(
-        &mut self,
+    /// A torrent in which an endpoint is the first to take part, at a minute.
+    pub fn with_first<L: Ledger>(
+        alloc: Global,
         now: Minute,
         joining: &Joining,
-        place: Option<usize>,
-    ) -> Result<(), AllocError>
-        requires { place ≡ position (λ held. same_endpoint joining.now.who held.who)
-            (of_family (family_of joining.now.who.addr) self.old) }
-        ensures ok { OnOk result (self.new ≡ with_peer now.0 joining.now self.old) }
-        ensures err { OnErr result (self.new ≡ self.old) }
-        ensures renewed { OnErr result (place ≡ None) }
+        steps: &mut Steps<L>,
+    ) -> Result<Self, AllocError>
+        ensures value { IfOk result (λ stored. stored ≡
+            put_stored joining.now (empty_stored now.0)) }
+        ensures fit { (limit : ℕ) → 1 ≤ limit → IfOk result (IsFit limit now.0) }
     {
-        let held = Held {
-            who: joining.who,
-            seed: joining.seed,
-            stamp: now,
-        };
-        let family = joining.who.addr.family();
-        let was_seed = was_seed_at(self.peers(family), place, &joining.who);
-        match family {
-            Family::Four => put_in(&mut self.fours, place, held)?,
-            Family::Six => put_in(&mut self.sixes, place, held)?,
+        let mut stored = Stored::new(alloc, now)?;
+        stored.put(joining, steps)?;
+        Ok(stored)
+    }
+
+    /// A torrent with no peer, at a minute.
+    fn new(alloc: Global, now: Minute) -> Result<Self, AllocError>
+        ensures { IfOk result (λ stored. stored ≡ empty_stored now.0) }
+    {
+        Ok(Stored {
+            downloaded: 0,
+            swarm: Swarm::new(alloc, now)?,
+        })
+    }
+
+    /// How many peers it has.
+    pub fn len(&self) -> u32
+        ensures len { result ≡ peer_count self.now.swarm }
+        ensures most { result ≤ MOST_PEERS }
+    {
+        self.swarm.len(Family::Four) + self.swarm.len(Family::Six)
+    }
+
+    /// Whether an endpoint is one of its peers.
+    pub fn has(&self, who: &Endpoint) -> bool
+        ensures { result ≡
+            is_some (place_of who.now (of_family (family_of who.now.addr) self.now.swarm)) }
+    {
+        self.swarm.place(who).is_some()
+    }
+
+    /// The torrent's counts, over all of its peers.
+    pub fn counts(&self) -> Counts
+        ensures { result ≡ record {
+          complete = sum_by seed_one self.now.swarm.fours + sum_by seed_one self.now.swarm.sixes;
+          downloaded = self.now.downloaded;
+          incomplete =
+              sum_by other_one self.now.swarm.fours + sum_by other_one self.now.swarm.sixes;
+        } }
+    {
+        Counts {
+            complete: self.swarm.complete(),
+            downloaded: self.downloaded,
+            incomplete: self.swarm.incomplete(),
         }
-        self.touch = now;
-        if joining.completed && !was_seed {
+    }
+
+    /// Moves the time on. The peers that weren't heard of for 45 minutes or more go.
+    pub fn move_on<L: Ledger>(&mut self, now: Minute, steps: &mut Steps<L>)
+        requires { self.old.swarm.time ≤ now.0 }
+        ensures passes { PassesTo now.0 self.old self.new }
+        ensures fit { (limit : ℕ) → peer_count self.old.swarm ≤ limit → IsFit limit now.0 self.new }
+    {
+        self.swarm.advance(now, steps);
+        self.peers_are_tidy();
+    }
+
+    /// Lets an endpoint take part at a minute. The peers that aren't live go first; where it is
+    /// refused nothing else changes.
+    pub fn join<L: Ledger>(
+        &mut self,
+        limit: u32,
+        now: Minute,
+        joining: &Joining,
+        steps: &mut Steps<L>,
+    ) -> Result<(), JoinError>
+        requires past { self.old.swarm.time ≤ now.0 }
+        requires few { peer_count self.old.swarm ≤ limit }
+        requires limited { limit ≤ MOST_PEERS }
+        ensures joins { JoinsStored limit now.0 joining.now self.old self.new result }
+        ensures fit { IsFit limit now.0 self.new }
+    {
+        self.move_on(now, steps);
+        if self.len() == limit && !self.has(&joining.who) {
+            return Err(JoinError::SwarmFull);
+        }
+        self.put(joining, steps)?;
+        Ok(())
+    }
+
+    /// Lets an endpoint take part at the swarm's time. Only a new one may want memory, which changes
+    /// nothing.
+    fn put<L: Ledger>(&mut self, joining: &Joining, steps: &mut Steps<L>) -> Result<(), AllocError>
+        requires { IsSome (place_of joining.now.who
+            (of_family (family_of joining.now.who.addr) self.old.swarm)) ⊎
+            (peer_count self.old.swarm < MOST_PEERS) }
+        ensures ok { OnOk result (self.new ≡ put_stored joining.now self.old) }
+        ensures err { OnErr result (self.new ≡ self.old) }
+        ensures fresh { OnErr result (place_of joining.now.who
+            (of_family (family_of joining.now.who.addr) self.old.swarm) ≡ None) }
+        ensures tidy { IsTidySwarm self.new.swarm }
+    {
+        let outcome = self.swarm.put(joining.who, joining.seed, steps);
+        self.peers_are_tidy();
+        let put = outcome?;
+        if joining.completed && !was_seed(put) {
             self.downloaded = self.downloaded.saturating_add(1);
         }
         Ok(())
     }
 
-    /// The torrent's counts at a minute.
-    pub fn counts(&self, now: Minute) -> Counts
-        requires { length (peers_of self.now) < 2 ^ 32 }
-        ensures { result ≡ counts_at now.0 self.now }
+    /// Takes out an endpoint, if it is one of the peers.
+    pub fn take<L: Ledger>(&mut self, who: &Endpoint, steps: &mut Steps<L>)
+        ensures value { self.new ≡ record self.old {
+          swarm = with_family (family_of who.now.addr) self.old.swarm (without_peer who.now
+              (of_family (family_of who.now.addr) self.old.swarm));
+        } }
+        ensures fit { (limit time : ℕ) → IsFit limit time self.old → IsFit limit time self.new }
     {
-        Counts {
-            complete: (seeds_in(&self.fours, now) + seeds_in(&self.sixes, now)) as u32,
-            downloaded: self.downloaded,
-            incomplete: (leechers_in(&self.fours, now) + leechers_in(&self.sixes, now)) as u32,
-        }
+        self.swarm.take(who, steps);
+        self.peers_are_tidy();
     }
 
-    /// The torrent's counts at a minute, if it is known then.
-    pub fn known_counts(&self, now: Minute) -> Option<Counts>
-        requires { length (peers_of self.now) < 2 ^ 32 }
-        ensures { result ≡ counts_if_known now.0 self.now }
+    /// A law of the peers of every swarm.
+    fn peers_are_tidy(&self)
+        ensures { IsTidySwarm self.now.swarm }
     {
-        if self.is_known_at(now) {
-            Some(self.counts(now))
-        } else {
-            None
-        }
+        self.swarm.time();
     }
 
-    /// Tells an asker other peers of its family, as many as it wants or all.
-    pub fn tell(&self, now: Minute, asker: &Endpoint, want: u32, told: &mut Peers)
-        requires wanted { want ≤ WANTED_PEERS }
+    /// Adds to an empty list the endpoints that the words choose among those of the asker's family
+    /// but the asker's own.
+    pub fn choose(&self, asker: &Endpoint, want: u32, words: &[u32; 200], told: &mut Peers)
+        requires few { want ≤ 200 }
         requires empty { told.old ≡ [] }
-        ensures { told.new ≡ other_endpoints now.0 asker.now want self.now }
+        ensures { told.new ≡ choice_of words.now asker.now want
+            (of_family (family_of asker.now.addr) self.now.swarm) }
     {
-        tell_others(self.peers(asker.addr.family()), now, asker, want, told);
+        self.swarm.choose(asker, want, words, told);
     }
+}
 
-    /// A torrent of which nothing has been heard. It takes no memory.
-    fn new(alloc: Global, hash: InfoHash) -> Self
-        ensures { result ≡ new_torrent hash }
-    {
-        Stored {
-            hash,
-            touch: Minute(0),
-            downloaded: 0,
-            fours: Vec::new(alloc),
-            sixes: Vec::new(alloc),
-        }
+/// How many peers there are in all of them.
+pub fn peers_held(list: &[Stored]) -> u64
+    requires { length list.now ≤ 1000000 }
+    ensures { result ≡ sum_by (λ stored. peer_count stored.swarm) list.now }
+{
+    let mut total = 0;
+    for stored in list {
+        total += u64::from(stored.len());
     }
+    total
+}
 
-    /// The peers of one family, in order.
-    fn peers(&self, family: Family) -> &[Held]
-        ensures { result.now ≡ of_family family self.now }
-    {
-        match family {
-            Family::Four => self.fours.as_slice(),
-            Family::Six => self.sixes.as_slice(),
-        }
+/// Whether the endpoint that was put was a seed before.
+fn was_seed(put: Put) -> bool
+    ensures { result ≡ stood_as_seed put }
+{
+    match put {
+        Put::Fresh => false,
+        Put::Again { seed } => seed,
     }
 }

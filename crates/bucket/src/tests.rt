@@ -1,11 +1,15 @@
 //! What no clause says: worked values.
 
 ghost use Rattle.std.specs.Prelude.{◌≡◌, ◌≤◌, true, false};
-ghost use Rattle.tracker_model.specs.Calls.{IsPeer, IsWellFormed, is_request};
+ghost use Rattle.tracker_model.specs.Calls.{IsPeer, IsWellFormed};
 ghost use Rattle.tracker_model.specs.Settings.{AreLimits};
+ghost use Rattle.bucket.specs.Public.{is_own};
+
+mod random;
 
 use super::*;
 use ot_base::{Addr, Endpoint, InfoHash, Limits, Minute};
+use std::alloc::{AllocError, Global};
 use std::process::Abort;
 use std::test::Fail;
 use tracker_model::{Answer, Call};
@@ -105,7 +109,7 @@ fn announce(hash: InfoHash, who: Endpoint, seed: bool, completed: bool, want: u3
     requires finished { completed ≡ true → seed ≡ true }
     requires wanted { want ≤ 200 }
     ensures formed { IsWellFormed result }
-    ensures request { is_request result ≡ true }
+    ensures request { is_own result ≡ true }
 {
     Call::Announce {
         hash,
@@ -119,7 +123,7 @@ fn announce(hash: InfoHash, who: Endpoint, seed: bool, completed: bool, want: u3
 fn call_of(hash: InfoHash, who: Endpoint, asks: Asks) -> Call
     requires peer { IsPeer who }
     ensures formed { IsWellFormed result }
-    ensures request { is_request result ≡ true }
+    ensures request { is_own result ≡ true }
 {
     match asks {
         Asks::Leecher => announce(hash, who, false, false, 50),
@@ -131,14 +135,14 @@ fn call_of(hash: InfoHash, who: Endpoint, asks: Asks) -> Call
 }
 
 /// Asks once, and again where there was no memory.
-fn ask(bucket: &mut Bucket, minute: u32, call: Call) -> Answer
+fn ask(bucket: &mut Bucket, minute: u32, call: Call, words: &[u32; 200]) -> Answer
     requires formed { IsWellFormed call }
     requires alone { bucket.old.settings.sync ≡ false }
-    requires request { is_request call ≡ true }
+    requires request { is_own call ≡ true }
     ensures { bucket.new.settings ≡ bucket.old.settings }
 {
-    match bucket.call(0, Minute(minute), call, &WORDS) {
-        Answer::NoMemory => bucket.call(0, Minute(minute), call, &WORDS),
+    match bucket.call(0, Minute(minute), call, words) {
+        Answer::NoMemory => bucket.call(0, Minute(minute), call, words),
         answer => answer,
     }
 }
@@ -148,7 +152,12 @@ fn follow(rt: &(impl Abort + AllocGlobal), limits: Limits, steps: &[Step]) -> Re
 {
     let mut bucket = Bucket::new(rt.alloc(), limits, false)?;
     for (label, minute, hash, n, asks, want) in steps {
-        let answer = ask(&mut bucket, *minute, call_of(*hash, numbered(*n), *asks));
+        let answer = ask(
+            &mut bucket,
+            *minute,
+            call_of(*hash, numbered(*n), *asks),
+            &WORDS,
+        );
         assert_eq!(rt; outcome_of(&answer), *want, "{label}");
     }
     Ok(())
@@ -302,10 +311,12 @@ fn told_among(rt: &(impl Abort + AllocGlobal), others: u16, want: u32) -> Result
             &mut bucket,
             0,
             announce(A, at([10, 0, high, low]), false, false, 0),
+            &WORDS,
         );
     }
     assert_eq!(rt; bucket.held(), u64::from(others));
-    match ask(&mut bucket, 0, announce(A, numbered(1), false, false, want)) {
+    let newcomer = announce(A, numbered(1), false, false, want);
+    match ask(&mut bucket, 0, newcomer, &WORDS) {
         Answer::Told { peers, .. } => Ok(peers.len()),
         _ => Ok(usize::MAX),
     }
@@ -331,10 +342,156 @@ fn as_many_peers_as_are_wanted(rt: HostRuntime) -> Result<(), Fail> {
 fn time_and_stored_peers(rt: HostRuntime) -> Result<(), Fail> {
     let mut bucket = Bucket::new(rt.alloc(), USUAL, false)?;
     assert_eq!(rt; (bucket.time(), bucket.held()), (Minute(0), 0));
-    ask(&mut bucket, 8, call_of(A, numbered(1), Asks::Leecher));
-    ask(&mut bucket, 7, call_of(B, numbered(1), Asks::Leecher));
+    ask(
+        &mut bucket,
+        8,
+        call_of(A, numbered(1), Asks::Leecher),
+        &WORDS,
+    );
+    ask(
+        &mut bucket,
+        7,
+        call_of(B, numbered(1), Asks::Leecher),
+        &WORDS,
+    );
     assert_eq!(rt; (bucket.time(), bucket.held()), (Minute(8), 2));
-    ask(&mut bucket, 9, call_of(B, numbered(1), Asks::Stop));
+    ask(&mut bucket, 9, call_of(B, numbered(1), Asks::Stop), &WORDS);
     assert_eq!(rt; (bucket.time(), bucket.held()), (Minute(9), 1));
+    Ok(())
+}
+
+/// The hashes in the bucket's order, each with its touch.
+fn touches(alloc: Global, bucket: &Bucket) -> Result<Vec<(InfoHash, u32)>, AllocError> {
+    let ring = bucket.ring();
+    let mut touches = Vec::new(alloc);
+    for i in 0..ring.len() {
+        touches.push((ring.item(i), ring.stamp(i)))?;
+    }
+    Ok(touches)
+}
+
+#[test]
+fn torrents_stand_in_the_order_in_which_they_came(rt: HostRuntime) -> Result<(), Fail> {
+    let c = InfoHash([0x22; 20]);
+    let mut bucket = Bucket::new(rt.alloc(), USUAL, false)?;
+    let steps: [(&str, u32, InfoHash, &[(InfoHash, u32)]); 6] = [
+        ("the first", 0, B, &[(B, 0)]),
+        ("behind it", 1, A, &[(B, 0), (A, 1)]),
+        ("touched again", 2, B, &[(B, 2), (A, 1)]),
+        ("the third", 3, c, &[(B, 2), (A, 1), (c, 3)]),
+        ("the last moves into a gap", 1441, B, &[(B, 1441), (c, 3)]),
+        ("the second at its end", 1443, A, &[(B, 1441), (A, 1443)]),
+    ];
+    for (label, minute, hash, order) in steps {
+        ask(
+            &mut bucket,
+            minute,
+            call_of(hash, numbered(1), Asks::Leecher),
+            &WORDS,
+        );
+        assert_eq!(&rt; touches(rt.alloc(), &bucket)?.as_slice(), order, "{label}");
+    }
+    Ok(())
+}
+
+/// The rows that a scan tells, by the first bytes of their hashes, with their leechers.
+fn scanned(
+    rt: &(impl Abort + AllocGlobal),
+    bucket: &mut Bucket,
+    minute: u32,
+) -> Result<Vec<(u8, u32)>, AllocError>
+    requires { bucket.old.settings.sync ≡ false }
+    ensures { bucket.new.settings ≡ bucket.old.settings }
+{
+    let mut told = Vec::new(rt.alloc());
+    if let Answer::Rows { rows } = ask(bucket, minute, Call::Scan, &WORDS) {
+        for row in rows.as_slice() {
+            told.push((row.hash.0[0], row.counts.incomplete))?;
+        }
+    }
+    Ok(told)
+}
+
+#[test]
+fn a_scan_tells_known_torrents_in_ascending_order(rt: HostRuntime) -> Result<(), Fail> {
+    let mut bucket = Bucket::new(rt.alloc(), USUAL, false)?;
+    for (minute, hash, n) in [(0, B, 1), (0, A, 1), (44, A, 2)] {
+        ask(
+            &mut bucket,
+            minute,
+            call_of(hash, numbered(n), Asks::Leecher),
+            &WORDS,
+        );
+    }
+    let steps: [(&str, u32, &[(u8, u32)]); 6] = [
+        ("all live", 44, &[(0x11, 2), (0xff, 1)]),
+        ("one is left", 45, &[(0x11, 1), (0xff, 0)]),
+        ("none is left", 89, &[(0x11, 0), (0xff, 0)]),
+        ("both known", 1439, &[(0x11, 0), (0xff, 0)]),
+        ("one forgotten", 1440, &[(0x11, 0)]),
+        ("the other as well", 1484, &[]),
+    ];
+    for (label, minute, rows) in steps {
+        assert_eq!(&rt;
+            scanned(&rt, &mut bucket, minute)?.as_slice(),
+            rows,
+            "{label}"
+        );
+    }
+    Ok(())
+}
+
+#[test]
+fn a_cleaning_drops_what_is_stale(rt: HostRuntime) -> Result<(), Fail> {
+    let mut bucket = Bucket::new(rt.alloc(), USUAL, false)?;
+    for (minute, hash, n) in [(0, B, 1), (0, A, 1), (44, A, 2)] {
+        ask(
+            &mut bucket,
+            minute,
+            call_of(hash, numbered(n), Asks::Leecher),
+            &WORDS,
+        );
+    }
+    for (label, minute, stored, live, torrents) in [
+        ("all live", 44, 3, 3, 2),
+        ("one is left", 45, 3, 1, 2),
+        ("none is left", 89, 1, 0, 2),
+        ("one forgotten", 1440, 0, 0, 1),
+        ("the other as well", 1484, 0, 0, 0),
+    ] {
+        assert_eq!(&rt; bucket.held(), stored, "{label}: before");
+        match ask(&mut bucket, minute, Call::Clean, &WORDS) {
+            Answer::Cleaned { held } => assert_eq!(&rt; held, live, "{label}"),
+            _ => assert!(&rt; false, "{label}: no cleaning"),
+        }
+        assert_eq!(&rt;
+            (bucket.held(), bucket.ring().len()),
+            (live, torrents),
+            "{label}: after"
+        );
+    }
+    Ok(())
+}
+
+#[test]
+fn a_scrape_by_itself_is_that_of_a_call(rt: HostRuntime) -> Result<(), Fail> {
+    let mut bucket = Bucket::new(rt.alloc(), USUAL, false)?;
+    ask(
+        &mut bucket,
+        0,
+        call_of(A, numbered(1), Asks::Finisher),
+        &WORDS,
+    );
+    for (label, minute, hash, want) in [
+        ("live", 44, A, (1, 1, 0, true)),
+        ("stale", 45, A, (0, 1, 0, true)),
+        ("time stays", 0, A, (0, 1, 0, true)),
+        ("unknown", 45, B, (0, 0, 0, false)),
+        ("forgotten", 1440, A, (0, 0, 0, false)),
+    ] {
+        let (counts, known) = bucket.scrape(0, Minute(minute), &hash);
+        let told = (counts.complete, counts.downloaded, counts.incomplete, known);
+        assert_eq!(&rt; told, want, "{label}");
+    }
     Ok(())
 }

@@ -1,95 +1,131 @@
 -- The bucket stands on by the law of the call that is matched.
-use Rattle.std.proofs.Common.{[], List, refl, sym, ◌∙◌, ap, subst}
+use Rattle.std.proofs.Common.{◌≡◌, [], List, Result, Ok, Err, sym, ◌∙◌, ap, subst}
 use Rattle.ot_base.specs.declared.address.Endpoint.{Endpoint}
-use Rattle.ot_base.specs.declared.peer.Counts.{Counts}
-use Rattle.tracker_model.specs.Shape.{Torrent}
-use Rattle.tracker_model.specs.Stands.{AreTidy}
 use Rattle.tracker_model.specs.declared.answer.Answer.{Answer}
-use Rattle.tracker_model.specs.declared.answer.Answer.TheVariants.{Told, Stats}
-use Rattle.bucket.specs.Announces.{error_answer}
-use Rattle.bucket.specs.Torrents.{AreCountable, found_counts}
-use Rattle.bucket.specs.declared.stored.Joining.{Joining}
-use Rattle.bucket.proofs.CallLaw.{StandsOn, shape_of, announce_tidy, announce_kind, announce_stands_on, stop_stands_on, scrape_stands_on}
-use Rattle.bucket.proofs.StopLemmas.{countable, takes_without, within_without}
+use Rattle.tracker_model.specs.declared.answer.Answer.TheVariants.{Told, Stats, Rows, Cleaned, NoMemory}
+use Rattle.tracker_model.specs.declared.call.Call.{Call}
+use Rattle.tracker_model.specs.declared.call.Call.TheVariants.{Announce, Stop, Scrape, Scan, Clean}
+use Rattle.bucket.specs.Answers.{error_answer}
+use Rattle.bucket.specs.Public.{IsCleaned}
+use Rattle.bucket.specs.declared.joining.Joining.{Joining}
+use Rattle.bucket.proofs.CallLaws.{bucket_of, formed_as, stands_as, order_as, kind_as, announce_stands, announce_kind, announce_order, stop_stands, scrape_stands, clean_stands, scan_stands, scan_wants_stands, cleaned_fresh}
+use Rattle.bucket.proofs.Judging.{StandsOn}
+use Rattle.bucket.proofs.Settling.{call_of}
 use Rattle.bucket.proofs.bucket.Bucket.call.Goals as goal
-
-pub invariant_of-self : goal.invariant_of-self
-invariant_of-self c =
-    let i = c.self.inside in
-    let j : Joining = record { hash = c.in-Announce.hash; who = c.in-Announce.who; seed = c.in-Announce.seed; completed = c.in-Announce.completed } in (
-      c.self.invariant.0,
-      c.announce-outcome.ensures.within,
-      announce_tidy c.args.caller c.args.minute i.limits i.sync i.time.0 c.max.result i.torrents.items c.announce-outcome.new.torrents.items c.args.self.now c.args.call c.self.view_is
-          j c.in-Announce.want (error_answer i.limits c.in-Err.error) c.in-Announce.is c.in-Err.ensures.announces c.self.invariant.2,
-    )
 
 pub returns-in-Err-clause-stands : goal.returns-in-Err-clause-stands
 returns-in-Err-clause-stands c =
     let i = c.self.inside in
+    let now = c.at_least-now.result.0 in
     let j : Joining = record { hash = c.in-Announce.hash; who = c.in-Announce.who; seed = c.in-Announce.seed; completed = c.in-Announce.completed } in
-    let P : Answer → Type 0 = λ a. StandsOn c.args.caller c.args.minute c.args.call a c.args.self.now (shape_of i.limits i.sync c.max.result c.announce-outcome.new.torrents.items) in
-    subst P (sym c.answer.ensures)
-    (announce_stands_on c.args.caller c.args.minute i.limits i.sync i.time.0 c.max.result i.torrents.items c.announce-outcome.new.torrents.items c.args.self.now c.args.call c.self.view_is
-    j c.in-Announce.want (error_answer i.limits c.in-Err.error) c.in-Announce.is c.in-Err.ensures.announces c.requires.formed c.requires.alone c.max.ensures)
+    let want = c.in-Announce.want in
+    let new = c.announce-outcome.new.torrents in
+    let told = c.announce-outcome.new.told in
+    let formed = formed_as c.args.call (call_of j want) c.in-Announce.is c.requires.formed in
+    let P : Answer → Type 0 = λ a. StandsOn c.args.caller c.args.minute c.args.call a c.args.self.now (bucket_of i.sync new) in
+    subst P (sym (c.answer.ensures ∙ ap (λ l. error_answer l c.in-Err.error) c.limits-limits.ensures))
+    (stands_as c.args.caller c.args.minute now i.sync i.torrents c.args.self.now c.self.view_is c.args.call (call_of j want) c.in-Announce.is c.requires.alone c.at_least-now.ensures (error_answer i.torrents.limits c.in-Err.error) new
+    (λ alone later. announce_stands now i.torrents new j want formed.1 c.args.words.now c.told-words told (Err c.in-Err.error) c.in-Err.ensures i.sync alone c.args.caller c.args.minute later formed))
 
-pub invariant_of-self-in-Announce : goal.invariant_of-self-in-Announce
-invariant_of-self-in-Announce c =
+pub returns-in-Err-clause-order : goal.returns-in-Err-clause-order
+returns-in-Err-clause-order c =
     let i = c.self.inside in
-    let j : Joining = record { hash = c.in-Announce.hash; who = c.in-Announce.who; seed = c.in-Announce.seed; completed = c.in-Announce.completed } in (
-      c.self.invariant.0,
-      c.announce-outcome.ensures.within,
-      announce_tidy c.args.caller c.args.minute i.limits i.sync i.time.0 c.max.result i.torrents.items c.announce-outcome.new.torrents.items c.args.self.now c.args.call c.self.view_is
-          j c.in-Announce.want (Told c.in-Ok.counts c.announce-outcome.new.told) c.in-Announce.is c.in-Ok.ensures.announces c.self.invariant.2,
-    )
+    let now = c.at_least-now.result.0 in
+    let j : Joining = record { hash = c.in-Announce.hash; who = c.in-Announce.who; seed = c.in-Announce.seed; completed = c.in-Announce.completed } in
+    let want = c.in-Announce.want in
+    let new = c.announce-outcome.new.torrents in
+    let told = c.announce-outcome.new.told in
+    let formed = formed_as c.args.call (call_of j want) c.in-Announce.is c.requires.formed in
+    order_as c.args.caller c.args.minute now i.sync i.torrents c.args.self.now c.self.view_is c.args.call (call_of j want) c.in-Announce.is new
+    (announce_order now i.torrents new j want formed.1 c.args.words.now c.told-words told (Err c.in-Err.error) c.in-Err.ensures i.sync)
 
 pub returns-in-Announce-clause-kind : goal.returns-in-Announce-clause-kind
 returns-in-Announce-clause-kind c =
     let i = c.self.inside in
+    let now = c.at_least-now.result.0 in
     let j : Joining = record { hash = c.in-Announce.hash; who = c.in-Announce.who; seed = c.in-Announce.seed; completed = c.in-Announce.completed } in
-    announce_kind c.args.caller c.args.minute i.limits i.sync i.time.0 c.max.result i.torrents.items c.announce-outcome.new.torrents.items c.args.self.now c.args.call c.self.view_is
-    j c.in-Announce.want (Told c.in-Ok.counts c.announce-outcome.new.told) c.in-Announce.is c.in-Ok.ensures.announces c.self.invariant.2
+    let want = c.in-Announce.want in
+    let new = c.announce-outcome.new.torrents in
+    let told = c.announce-outcome.new.told in
+    let formed = formed_as c.args.call (call_of j want) c.in-Announce.is c.requires.formed in
+    kind_as c.args.caller c.args.minute now i.sync i.torrents c.args.self.now c.self.view_is c.args.call (call_of j want) c.in-Announce.is (Told c.in-Ok.counts told)
+    (announce_kind now i.torrents new j want formed.1 c.args.words.now c.told-words told (Ok c.in-Ok.counts) c.in-Ok.ensures i.sync)
 
 pub returns-in-Announce-clause-stands : goal.returns-in-Announce-clause-stands
 returns-in-Announce-clause-stands c =
     let i = c.self.inside in
+    let now = c.at_least-now.result.0 in
     let j : Joining = record { hash = c.in-Announce.hash; who = c.in-Announce.who; seed = c.in-Announce.seed; completed = c.in-Announce.completed } in
-    announce_stands_on c.args.caller c.args.minute i.limits i.sync i.time.0 c.max.result i.torrents.items c.announce-outcome.new.torrents.items c.args.self.now c.args.call c.self.view_is
-    j c.in-Announce.want (Told c.in-Ok.counts c.announce-outcome.new.told) c.in-Announce.is c.in-Ok.ensures.announces c.requires.formed c.requires.alone c.max.ensures
+    let want = c.in-Announce.want in
+    let new = c.announce-outcome.new.torrents in
+    let told = c.announce-outcome.new.told in
+    let formed = formed_as c.args.call (call_of j want) c.in-Announce.is c.requires.formed in
+    stands_as c.args.caller c.args.minute now i.sync i.torrents c.args.self.now c.self.view_is c.args.call (call_of j want) c.in-Announce.is c.requires.alone c.at_least-now.ensures (Told c.in-Ok.counts told) new
+    (λ alone later. announce_stands now i.torrents new j want formed.1 c.args.words.now c.told-words told (Ok c.in-Ok.counts) c.in-Ok.ensures i.sync alone c.args.caller c.args.minute later formed)
 
-pub stop-requires : goal.stop-requires
-stop-requires c = countable c.self.inside.limits c.self.inside.torrents.items c.self.invariant.0 c.self.invariant.1
-
-pub invariant_of-self-in-Stop : goal.invariant_of-self-in-Stop
-invariant_of-self-in-Stop c =
+pub returns-in-Announce-clause-order : goal.returns-in-Announce-clause-order
+returns-in-Announce-clause-order c =
     let i = c.self.inside in
-    let Left : List Torrent → Type 0 = λ l. AreTidy l in (
-      c.self.invariant.0,
-      rw c.stop.ensures.left (within_without i.limits c.in-Stop.hash c.in-Stop.who i.torrents.items c.self.invariant.1),
-      subst Left (sym c.stop.ensures.left) (takes_without c.max.result i.torrents.items c.self.invariant.2 c.in-Stop.hash c.in-Stop.who).tidy,
-    )
+    let now = c.at_least-now.result.0 in
+    let j : Joining = record { hash = c.in-Announce.hash; who = c.in-Announce.who; seed = c.in-Announce.seed; completed = c.in-Announce.completed } in
+    let want = c.in-Announce.want in
+    let new = c.announce-outcome.new.torrents in
+    let told = c.announce-outcome.new.told in
+    let formed = formed_as c.args.call (call_of j want) c.in-Announce.is c.requires.formed in
+    order_as c.args.caller c.args.minute now i.sync i.torrents c.args.self.now c.self.view_is c.args.call (call_of j want) c.in-Announce.is new
+    (announce_order now i.torrents new j want formed.1 c.args.words.now c.told-words told (Ok c.in-Ok.counts) c.in-Ok.ensures i.sync)
 
 pub returns-in-Stop-clause-stands : goal.returns-in-Stop-clause-stands
 returns-in-Stop-clause-stands c =
     let i = c.self.inside in
-    let new = shape_of i.limits i.sync c.max.result c.stop.new.torrents.items in
-    let P : Counts → List Endpoint → Type 0 = λ counts peers. StandsOn c.args.caller c.args.minute c.args.call (Told counts peers) c.args.self.now new in
-    subst (P c.unwrap_or.result) (sym c.new.ensures)
-    (subst (λ counts. P counts []) (sym c.unwrap_or.ensures)
-    (stop_stands_on c.args.caller c.args.minute i.limits i.sync i.time.0 c.max.result i.torrents.items c.stop.new.torrents.items c.args.self.now c.args.call c.self.view_is
-    c.in-Stop.hash c.in-Stop.who c.stop.result c.in-Stop.is c.requires.formed c.requires.alone c.max.ensures c.stop.ensures.left c.stop.ensures.counts))
-
-pub scrape-counts-requires : goal.scrape-counts-requires
-scrape-counts-requires c =
-    let P : List Torrent → Type 0 = λ l. AreCountable l in
-    subst P (sym c.deref.ensures.value) (countable c.self.inside.limits c.self.inside.torrents.items c.self.invariant.0 c.self.invariant.1)
+    let now = c.at_least-now.result.0 in
+    let new = c.stop.new.torrents in
+    let hash = c.in-Stop.hash in
+    let who = c.in-Stop.who in
+    let formed = formed_as c.args.call (Stop hash who) c.in-Stop.is c.requires.formed in
+    let P : List Endpoint → Type 0 = λ l. StandsOn c.args.caller c.args.minute c.args.call (Told c.stop.result l) c.args.self.now (bucket_of i.sync new) in
+    subst P (sym c.new-in-Stop-2.ensures)
+    (stands_as c.args.caller c.args.minute now i.sync i.torrents c.args.self.now c.self.view_is c.args.call (Stop hash who) c.in-Stop.is c.requires.alone c.at_least-now.ensures (Told c.stop.result []) new
+    (λ alone later. stop_stands now hash i.torrents new i.sync alone c.args.caller c.args.minute later who c.stop.result c.stop.ensures formed))
 
 pub returns-in-Scrape-clause-stands : goal.returns-in-Scrape-clause-stands
 returns-in-Scrape-clause-stands c =
     let i = c.self.inside in
-    let new = shape_of i.limits i.sync c.max.result i.torrents.items in
-    let P : Counts → Type 0 = λ counts. StandsOn c.args.caller c.args.minute c.args.call (Stats counts c.is_some.result) c.args.self.now new in
-    subst P (sym c.unwrap_or-in-Scrape.ensures)
-    (rw c.is_some.ensures
-    (scrape_stands_on c.args.caller c.args.minute i.limits i.sync i.time.0 c.max.result i.torrents.items i.torrents.items c.args.self.now c.args.call c.self.view_is
-    c.in-Scrape.hash c.scrape-counts.result c.in-Scrape.is c.requires.alone c.max.ensures refl
-    (c.scrape-counts.ensures ∙ ap (λ l. found_counts c.max.result l c.in-Scrape.hash) c.deref.ensures.value)))
+    let now = c.at_least-now.result.0 in
+    let new = c.scrape-known.new.torrents in
+    let counts = c.scrape-known.result.0 in
+    let known = c.scrape-known.result.1 in
+    stands_as c.args.caller c.args.minute now i.sync i.torrents c.args.self.now c.self.view_is c.args.call (Scrape c.in-Scrape.hash) c.in-Scrape.is c.requires.alone c.at_least-now.ensures (Stats counts known) new
+    (λ alone later. scrape_stands now c.in-Scrape.hash i.torrents new i.sync alone c.args.caller c.args.minute later counts known c.scrape-known.ensures)
+
+pub returns-in-Err-rows-clause-stands : goal.returns-in-Err-rows-clause-stands
+returns-in-Err-rows-clause-stands c =
+    let i = c.self.inside in
+    let now = c.at_least-now.result.0 in
+    let new = c.clean.new.torrents in
+    stands_as c.args.caller c.args.minute now i.sync i.torrents c.args.self.now c.self.view_is c.args.call Scan c.in-Scan.is c.requires.alone c.at_least-now.ensures NoMemory new
+    (λ alone later. scan_wants_stands now i.torrents new c.clean.ensures i.sync alone c.args.caller c.args.minute later)
+
+pub returns-in-Scan-clause-stands : goal.returns-in-Scan-clause-stands
+returns-in-Scan-clause-stands c =
+    let i = c.self.inside in
+    let now = c.at_least-now.result.0 in
+    let new = c.clean.new.torrents in
+    let rows = c.in-Ok-rows.rows in
+    stands_as c.args.caller c.args.minute now i.sync i.torrents c.args.self.now c.self.view_is c.args.call Scan c.in-Scan.is c.requires.alone c.at_least-now.ensures (Rows rows) new
+    (λ alone later. scan_stands now i.torrents new c.clean.ensures i.sync alone c.args.caller c.args.minute later rows c.in-Ok-rows.ensures)
+
+pub returns-in-Clean-clause-stands : goal.returns-in-Clean-clause-stands
+returns-in-Clean-clause-stands c =
+    let i = c.self.inside in
+    let now = c.at_least-now.result.0 in
+    let new = c.clean-in-Clean.new.torrents in
+    stands_as c.args.caller c.args.minute now i.sync i.torrents c.args.self.now c.self.view_is c.args.call Clean c.in-Clean.is c.requires.alone c.at_least-now.ensures (Cleaned c.held.result) new
+    (λ alone later. clean_stands now i.torrents new c.clean-in-Clean.ensures i.sync alone c.args.caller c.args.minute later c.held.result c.held.ensures)
+
+pub returns-in-Clean-clause-cleaned : goal.returns-in-Clean-clause-cleaned
+returns-in-Clean-clause-cleaned c =
+    let i = c.self.inside in
+    let new = c.clean-in-Clean.new.torrents in
+    let P : Call → Type 0 = λ k. IsCleaned k (bucket_of i.sync new) in
+    subst P (sym c.in-Clean.is) (cleaned_fresh c.at_least-now.result.0 i.torrents new c.clean-in-Clean.ensures i.sync)

@@ -1,7 +1,0 @@
--- What is retained are the torrents that pass the closure's test.
-use Rattle.std.proofs.Common.{rules}
-use Rattle.std.proofs.lemmas.Fn.{filter_same}
-use Rattle.bucket.proofs.table.forget.Goals as goal
-
-pub returns : goal.returns
-returns c = filter_same _ _ _ (λ x b f' k. search rules) _ _ c.retain.ensures.filtered

@@ -1,0 +1,57 @@
+-- The peers that aren't live go from what is stored at the place.
+use Rattle.std.proofs.Common.{◌≡◌, ℕ, ◌<◌, ◌≤◌, refl, subst, sym, ap, length, arith}
+use Rattle.tracker_model.specs.Shape.{Torrent}
+use Rattle.bucket.specs.Index.{place_in}
+use Rattle.bucket.specs.Stored.{IsFit, torrent_by}
+use Rattle.bucket.specs.Table.{IsKept, Table}
+use Rattle.bucket.specs.Torrents.{Freshens}
+use Rattle.bucket.specs.declared.stored.Stored.{Stored}
+use Rattle.bucket.proofs.PlaceLemmas.{StandsAt, kept_set, stands_at, stays_by, turns_set, within_list}
+use Rattle.bucket.proofs.torrents.Torrents.refresh.Goals as goal
+
+pub index_mut-requires : goal.index_mut-requires
+index_mut-requires g c =
+    let k = c.self.inside in
+    omega (arith, within_list c.args.self.now k.limits k.ring.time k.ring.pairs k.list.items c.args.place c.self.view_is c.self.invariant.as_many c.requires, k.list.ok.0)
+
+pub move_on-requires : goal.move_on-requires
+move_on-requires g c =
+    let k = c.self.inside in
+    let stored = c.index_mut.result.now in
+    let within = within_list c.args.self.now k.limits k.ring.time k.ring.pairs k.list.items c.args.place c.self.view_is c.self.invariant.as_many c.requires in
+    let fit = c.self.invariant.each c.args.place stored within in
+    omega (arith, fit.past, ap (λ (s : Stored). s.swarm.time) c.index_mut.ensures.value, c.time.ensures.time)
+
+pub invariant_of-self : goal.invariant_of-self
+invariant_of-self g c =
+    let k = c.self.inside in
+    let stored = c.index_mut.result.now in
+    let within = within_list c.args.self.now k.limits k.ring.time k.ring.pairs k.list.items c.args.place c.self.view_is c.self.invariant.as_many c.requires in
+    let P : Stored → Type 0 = λ s. IsFit k.limits.peers k.ring.time s in
+    let fit = subst P (sym c.index_mut.ensures.value) (c.self.invariant.each c.args.place stored within) in
+    let T : ℕ → Type 0 = λ t. IsFit k.limits.peers t c.move_on.new.self in
+    kept_set k.limits k.ring (place_in k.index) k.list.items c.args.place c.move_on.new.self c.self.invariant (subst T c.time.ensures.time (c.move_on.ensures.fit k.limits.peers fit.few))
+
+pub returns-clause-stays : goal.returns-clause-stays
+returns-clause-stays g c =
+    let k = c.self.inside in
+    stays_by c.args.self.now k.limits k.ring k.ring (place_in k.index) k.list.items _ c.self.view_is refl (invariant_of-self g c)
+
+pub returns-clause-turns : goal.returns-clause-turns
+returns-clause-turns g c =
+    let k = c.self.inside in
+    let stored = c.index_mut.result.now in
+    let within = within_list c.args.self.now k.limits k.ring.time k.ring.pairs k.list.items c.args.place c.self.view_is c.self.invariant.as_many c.requires in
+    let it = stands_at k.ring.pairs k.list.items c.args.place stored c.self.invariant.as_many within c.index_mut.ensures.value in
+    let passes = c.move_on.ensures.passes in
+    let T : ℕ → Type 0 = λ t. Freshens t (torrent_by it.pair stored) (torrent_by it.pair c.move_on.new.self) in
+    let freshens = subst T c.time.ensures.time (record {
+      hash = refl;
+      touch = refl;
+      downloaded = passes.downloaded;
+      fours = passes.fours;
+      sixes = passes.sixes;
+      young_fours = passes.young_fours;
+      young_sixes = passes.young_sixes;
+    }) in
+    rw (← c.self.view_is) (turns_set k.ring.pairs k.list.items c.args.place stored c.move_on.new.self (Freshens k.ring.time) it freshens)
