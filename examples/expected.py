@@ -2,7 +2,8 @@
 """What a replay of a trace must write: expected.py < TRACE > REPLIES
 
 A tracker on its own, with nothing in common with the one in crates/ but the formats and rules of docs/. It knows no
-limits: a trace must not reach them. It answers datagrams (`U`) and connections (`H`) of IPv4.
+limits: a trace must not reach them. It answers datagrams (`U`) and connections (`H`) of IPv4, and rounds of the
+cleaner (`C`).
 """
 import hashlib
 import re
@@ -15,16 +16,37 @@ DATAGRAM_BYTES, CONNECTION_BYTES = 2048, 8192
 
 
 class Torrent:
-    """The peers as (endpoint, is a seed, minute of the last announce), in the order in which they are told."""
+    """The peers in the order in which they are told: each as its endpoint, whether it is a seed, the minute of its last
+    announce, and how many announces came before that. Where one goes, the last one moves into its place."""
 
     def __init__(self):
-        self.peers, self.touch, self.downloaded = [], 0, 0
+        self.peers, self.touch, self.downloaded, self.announces = [], 0, 0, 0
 
     def place(self, endpoint):
         return next((i for i, peer in enumerate(self.peers) if peer[0] == endpoint), None)
 
+    def put(self, endpoint, seed, minute):
+        peer, place = (endpoint, seed, minute, self.announces), self.place(endpoint)
+        self.announces += 1
+        if place is None:
+            self.peers.append(peer)
+        else:
+            self.peers[place] = peer
+
+    def take(self, endpoint):
+        place = self.place(endpoint)
+        if place is not None:
+            self.peers[place] = self.peers[-1]
+            self.peers.pop()
+
+    def age(self, minute):
+        """Peers that aren't live are gone, minute by minute, of each the ones first that announced last."""
+        stale = [peer for peer in self.peers if minute - peer[2] >= PEER_MINUTES]
+        for peer in sorted(stale, key=lambda peer: (peer[2], -peer[3])):
+            self.take(peer[0])
+
     def counts(self):
-        complete = sum(seed for _, seed, _ in self.peers)
+        complete = sum(peer[1] for peer in self.peers)
         return complete, self.downloaded, len(self.peers) - complete
 
 
@@ -33,32 +55,37 @@ class Tracker:
         self.time, self.torrents = 0, {}
 
     def advance(self, minute):
-        """Time passes: torrents that aren't known any more and peers that aren't live are gone."""
+        """Time passes: torrents that aren't known any more are gone."""
         self.time = max(self.time, minute)
         self.torrents = {h: t for h, t in self.torrents.items() if self.time - t.touch < TORRENT_MINUTES}
-        for torrent in self.torrents.values():
-            torrent.peers = [peer for peer in torrent.peers if self.time - peer[2] < PEER_MINUTES]
+
+    def torrent(self, info_hash):
+        """The torrent of a hash with its live peers; one without any, where it isn't known."""
+        torrent = self.torrents.get(info_hash, Torrent())
+        torrent.age(self.time)
+        return torrent
 
     def announce(self, info_hash, endpoint, seed, completed, want):
-        torrent = self.torrents.setdefault(info_hash, Torrent())
-        torrent.touch, peer = self.time, (endpoint, seed, self.time)
+        torrent = self.torrents[info_hash] = self.torrent(info_hash)
         place = torrent.place(endpoint)
         if completed and not (place is not None and torrent.peers[place][1]):
             torrent.downloaded += 1
-        if place is None:
-            torrent.peers.append(peer)
-        else:
-            torrent.peers[place] = peer
-        others = [other for other, _, _ in torrent.peers if other != endpoint]
+        torrent.put(endpoint, seed, self.time)
+        torrent.touch = self.time
+        others = [peer[0] for peer in torrent.peers if peer[0] != endpoint]
         return torrent.counts(), others[:want]
 
     def stop(self, info_hash, endpoint):
-        torrent = self.torrents.get(info_hash, Torrent())
-        torrent.peers = [peer for peer in torrent.peers if peer[0] != endpoint]
+        torrent = self.torrent(info_hash)
+        torrent.take(endpoint)
         return torrent.counts(), []
 
     def scrape(self, info_hash):
-        return self.torrents.get(info_hash, Torrent()).counts()
+        return self.torrent(info_hash).counts()
+
+    def clean(self):
+        """How many live peers there are."""
+        return sum(len(self.torrent(info_hash).peers) for info_hash in self.torrents)
 
 
 def compact(peers):
@@ -263,17 +290,23 @@ def connection_output(tracker, minute, address, sent):
     return "S cut" if code is None else "R " + http_reply(code, body).hex()
 
 
+def output(tracker, kind, seconds, address=None, _=None, digits=None):
+    """The output line of a record."""
+    minute = min(int(seconds) // 60, 2**32 - 1)
+    if kind == "C":
+        tracker.advance(minute)
+        return f"C {tracker.clean()}"
+    address, received = bytes(int(number) for number in address.split(".")), bytes.fromhex(digits)
+    if kind == "U":
+        return datagram_output(tracker, minute, address, received[:DATAGRAM_BYTES])
+    assert kind == "H", "datagrams, connections and rounds of the cleaner"
+    return connection_output(tracker, minute, address, received[:CONNECTION_BYTES])
+
+
 def main():
     tracker = Tracker()
     for line in sys.stdin:
-        kind, seconds, address, _, digits = line.rstrip("\n").split(" ")
-        minute = min(int(seconds) // 60, 2**32 - 1)
-        address, received = bytes(int(number) for number in address.split(".")), bytes.fromhex(digits)
-        if kind == "U":
-            print(datagram_output(tracker, minute, address, received[:DATAGRAM_BYTES]))
-        else:
-            assert kind == "H", "only datagrams and connections"
-            print(connection_output(tracker, minute, address, received[:CONNECTION_BYTES]))
+        print(output(tracker, *line.rstrip("\n").split(" ")))
 
 
 main()

@@ -22,7 +22,13 @@ use Rattle.tracker_model.specs.declared.answer.Answer.{Answer}
 use Rattle.tracker_model.specs.declared.entry.Entry.{Entry}
 use Rattle.offline.specs.Follows.{Follows, RefusesLine}
 use Rattle.offline.specs.Outcome.{CarriesOut, IsOutcome, IsReply, Serves}
-use Rattle.offline.specs.Records.{RecordPlan, datagram, connection, IsLinePlan, record_calls, reply_line, sent_line, datagram_output, connection_output, output_line}
+use Rattle.offline.specs.Records.{RecordPlan, datagram, connection, cleaning, IsLinePlan, record_calls, cleaned_line, reply_line, sent_line, cleaning_output, datagram_output, connection_output, output_line}
+use Rattle.offline.proofs.Announcing.{call_entry, one_call}
+use Rattle.trace_text.specs.declared.line.TraceLine.TheVariants.{Clean}
+use Rattle.tracker_model.specs.Legal.{IsLegalHistory}
+use Rattle.tracker_model.specs.Settings.{Settings}
+use Rattle.tracker_model.specs.declared.answer.Answer.TheVariants.{Cleaned}
+use Rattle.tracker_model.specs.declared.call.Call.TheVariants as call
 use Rattle.offline.specs.Replay.{IsAnswered, MakesCalls}
 use Rattle.ot_base.specs.declared.hash.Secret.{Secret}
 use Rattle.ot_io.specs.declared.status.LineFault.{LineFault}
@@ -84,6 +90,21 @@ follows_connection old new line arrival minute plan reply read at is secret sett
     (record { recorded = connection_line arrival; read = read; planned = (at, is) }) secret settings
     (λ history stands. let c = serves history stands in (c.0, (c.1.answers, c.1.made, c.1.came), c.2))
     (λ answers came. output_of plan answers reply came)
+
+-- the line of a cleaning
+pub follows_cleaning : (old new : Replay) (line text : List ℕ) (seconds : ℕ) (minute : Minute) (held : ℕ) → text ≡ cleaned_line held
+    → line_of line ≡ Ok (Clean seconds) → minute ≡ minute_at seconds → new.secret ≡ old.secret → new.bucket.settings ≡ old.bucket.settings
+    → ((history : List Entry) → StandsFor history old.bucket → StandsFor (history ++ call_entry minute call.Clean (Cleaned held) ∷ []) new.bucket)
+    → Follows old line text new
+follows_cleaning old new line text seconds minute held is read at secret settings cleaned =
+    follows_by old new line text minute cleaning (λ answers. answers ≡ Cleaned held ∷ [])
+    (record { recorded = Clean seconds; read = read; planned = at }) secret settings
+    (λ history stands.
+    let next = history ++ call_entry minute call.Clean (Cleaned held) ∷ [] in
+    let Legal : Settings → Type 0 = λ g. IsLegalHistory g next in
+    let after = cleaned history stands in
+    (next, (Cleaned held ∷ [], one_call old.bucket.settings minute call.Clean (Cleaned held) history (subst Legal settings after.legal), refl), after))
+    (λ answers came. ap cleaning_output came ∙ ap Some (sym is))
 
 -- a failed write leaves a front of what waited and of the answer
 pub write_failed : {S F : Type 0} (answers : S → List ℕ → List ℕ → S → Type 0) (refuses : S → List ℕ → F → Type 0) (old new : S) (line text : List ℕ) (held held' : Option (List ℕ)) (waiting waiting' : List ℕ)

@@ -1,5 +1,5 @@
 -- What a line of a trace asks of the tracker, and what is written for it.
-use Rattle.std.specs.Prelude.{◌≡◌, ℕ, false, List, [], ◌∷◌, ◌++◌, Option, Some, None, Ok, codes}
+use Rattle.std.specs.Prelude.{◌≡◌, ℕ, false, List, [], ◌∷◌, ◌++◌, Option, Some, None, Ok, codes, decimal}
 use Rattle.std.specs.Option.{option_map}
 use Rattle.hex.specs.Hex.{encode_lower}
 use Rattle.ot_base.specs.Minute.{minute_at}
@@ -15,18 +15,22 @@ use Rattle.tracker_core.specs.declared.connection_plan.ConnectionPlan.TheVariant
 use Rattle.tracker_core.specs.declared.udp_plan.UdpPlan.{UdpPlan}
 use Rattle.tracker_core.specs.declared.udp_plan.UdpPlan.TheVariants.{Silent, Connected, Refused, Announce, Scrape}
 use Rattle.tracker_model.specs.declared.answer.Answer.{Answer}
+use Rattle.tracker_model.specs.declared.answer.Answer.TheVariants as answer
 use Rattle.tracker_model.specs.declared.call.Call.{Call}
+use Rattle.tracker_model.specs.declared.call.Call.TheVariants as call
 use Rattle.trace_text.specs.Trace.{line_of}
 use Rattle.trace_text.specs.declared.line.TraceLine.{TraceLine}
-use Rattle.trace_text.specs.declared.line.TraceLine.TheVariants.{Udp, Http}
+use Rattle.trace_text.specs.declared.line.TraceLine.TheVariants.{Udp, Http, Clean}
 use Rattle.udp_wire.specs.Packets.{request_of}
 use Rattle.udp_wire.specs.declared.request.Quiet.{Quiet}
 use Rattle.udp_wire.specs.declared.request.Quiet.TheVariants as quiet
 
--- what is to be done for a record: for a datagram, or for what came on a connection until its end
+-- what is to be done for a record: for a datagram, for what came on a connection until its end, or
+-- where the cleaner goes over the buckets
 pub data RecordPlan : Type 0 where
   datagram : UdpPlan → RecordPlan
   connection : ConnectionPlan → RecordPlan
+  cleaning : RecordPlan
 
 -- a record's minute, and its plan then. No full scrape is answered
 abbrev pub IsRecordPlan : Secret → TraceLine → Minute → RecordPlan → Type 0
@@ -34,8 +38,13 @@ IsRecordPlan secret (Udp seconds from bytes) minute (datagram plan) =
     (minute ≡ minute_at seconds) × (plan ≡ udp_plan secret from minute (request_of bytes))
 IsRecordPlan secret (Http seconds from bytes) minute (connection plan) =
     (minute ≡ minute_at seconds) × IsConnectionPlan bytes from false plan
+IsRecordPlan secret (Clean seconds) minute cleaning = minute ≡ minute_at seconds
 IsRecordPlan secret (Udp seconds from bytes) minute (connection plan) = ⊥
+IsRecordPlan secret (Udp seconds from bytes) minute cleaning = ⊥
 IsRecordPlan secret (Http seconds from bytes) minute (datagram plan) = ⊥
+IsRecordPlan secret (Http seconds from bytes) minute cleaning = ⊥
+IsRecordPlan secret (Clean seconds) minute (datagram plan) = ⊥
+IsRecordPlan secret (Clean seconds) minute (connection plan) = ⊥
 
 -- the same of a line
 pub record IsLinePlan (secret : Secret) (line : List ℕ) (minute : Minute) (plan : RecordPlan)
@@ -48,6 +57,7 @@ pub record IsLinePlan (secret : Secret) (line : List ℕ) (minute : Minute) (pla
 abbrev pub record_calls : RecordPlan → List Call
 record_calls (datagram plan) = calls_of plan
 record_calls (connection plan) = connection_calls plan
+record_calls cleaning = call.Clean ∷ []
 
 -- why a datagram has no reply, in a word
 abbrev pub quiet_word : Quiet → List ℕ
@@ -93,7 +103,30 @@ connection_output (Rejected code) answers =
 connection_output (Planned plan) answers =
     option_map reply_line (connection_text (Planned plan) answers)
 
+-- the output line of a cleaning that left so many peers
+abbrev pub cleaned_line : ℕ → List ℕ
+cleaned_line held = codes "C " ++ decimal held ++ line_end ∷ []
+
+-- how many peers are left in a bucket that was cleaned
+abbrev pub held_after : Answer → Option ℕ
+held_after (answer.Cleaned held) = Some held
+held_after (answer.Told counts peers) = None
+held_after (answer.Stats counts known) = None
+held_after (answer.Rows rows) = None
+held_after answer.Applied = None
+held_after (answer.Drained notes dropped) = None
+held_after (answer.SwarmFull count) = None
+held_after (answer.BucketFull count) = None
+held_after answer.NoMemory = None
+
+-- the output line of a cleaning, by the one bucket's answer
+abbrev pub cleaning_output : List Answer → Option (List ℕ)
+cleaning_output [] = None
+cleaning_output (cleaned ∷ []) = option_map cleaned_line (held_after cleaned)
+cleaning_output (cleaned ∷ second ∷ others) = None
+
 -- the output line of a record
 abbrev pub output_line : RecordPlan → List Answer → Option (List ℕ)
 output_line (datagram plan) answers = datagram_output plan answers
 output_line (connection plan) answers = connection_output plan answers
+output_line cleaning answers = cleaning_output answers

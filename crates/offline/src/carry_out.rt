@@ -20,7 +20,7 @@ use tracker_core::{UdpPlan, finish_udp};
 use tracker_model::{Answer, Call};
 use udp_wire::{Quiet, REPLY_ROOM, write_connect, write_error, write_scrape};
 
-/// The words by which peers are chosen. No bucket reads them yet.
+/// The words by which peers are chosen: of those that may be told the first ones.
 pub const NO_WORDS: [u32; 200] = [0; 200];
 
 /// What came of a plan.
@@ -137,6 +137,32 @@ fn scrape_all(
     write_scrape(transaction, counts.as_slice(), reply)
 }
 
+/// Cleans a bucket at a minute, and tells how many peers are left.
+pub fn clean(bucket: &mut Bucket, minute: Minute) -> u64
+    requires alone { bucket.old.settings.sync ≡ false }
+    ensures settings { bucket.new.settings ≡ bucket.old.settings }
+    ensures cleaned { (history : List Entry) → StandsFor history bucket.old →
+        StandsFor (history ++
+        (record {
+          caller = 0;
+          minute = minute;
+          call = call.Clean;
+          answer = answer.Cleaned result;
+        }) ∷ []) bucket.new }
+{
+    match bucket.call(0, minute, Call::Clean, &NO_WORDS) {
+        Answer::Cleaned { held } => held,
+        Answer::Told { .. }
+        | Answer::Stats { .. }
+        | Answer::Rows { .. }
+        | Answer::Applied
+        | Answer::Drained { .. }
+        | Answer::SwarmFull { .. }
+        | Answer::BucketFull { .. }
+        | Answer::NoMemory => unreachable!(),
+    }
+}
+
 /// The counts of the torrents, in order.
 fn counts_of(bucket: &mut Bucket, minute: Minute, hashes: &Hashes) -> CountList
     requires alone { bucket.old.settings.sync ≡ false }
@@ -149,36 +175,8 @@ fn counts_of(bucket: &mut Bucket, minute: Minute, hashes: &Hashes) -> CountList
 {
     let mut counts = CountList::new();
     for hash in hashes.as_slice() {
-        counts.push(scrape(bucket, minute, *hash));
+        let (found, _known) = bucket.scrape(0, minute, hash);
+        counts.push(found);
     }
     counts
-}
-
-/// The counts of a torrent.
-fn scrape(bucket: &mut Bucket, minute: Minute, hash: InfoHash) -> Counts
-    requires alone { bucket.old.settings.sync ≡ false }
-    ensures settings { bucket.new.settings ≡ bucket.old.settings }
-    ensures scraped { (history : List Entry) → StandsFor history bucket.old →
-        (known : Bool) × StandsFor (history ++
-        (record {
-          caller = 0;
-          minute = minute;
-          call = call.Scrape hash;
-          answer = answer.Stats result known;
-        }) ∷ []) bucket.new }
-{
-    match bucket.call(0, minute, Call::Scrape { hash }, &NO_WORDS) {
-        Answer::Stats {
-            counts,
-            known: _known,
-        } => counts,
-        Answer::Told { .. }
-        | Answer::Rows { .. }
-        | Answer::Cleaned { .. }
-        | Answer::Applied
-        | Answer::Drained { .. }
-        | Answer::SwarmFull { .. }
-        | Answer::BucketFull { .. }
-        | Answer::NoMemory => unreachable!(),
-    }
 }

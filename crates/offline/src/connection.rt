@@ -183,7 +183,7 @@ fn known_rows(
 {
     let mut rows = Rows::new(alloc);
     'hashes: for hash in hashes.as_slice() {
-        if let Some(row) = known_row(bucket, minute, *hash) {
+        if let Some(row) = known_row(bucket, minute, hash) {
             rows.push(row)?;
         }
     }
@@ -191,34 +191,29 @@ fn known_rows(
 }
 
 /// The counts of a torrent, where it is known.
-fn known_row(bucket: &mut Bucket, minute: Minute, hash: InfoHash) -> Option<Row>
+fn known_row(bucket: &mut Bucket, minute: Minute, hash: &InfoHash) -> Option<Row>
     requires alone { bucket.old.settings.sync ≡ false }
     ensures settings { bucket.new.settings ≡ bucket.old.settings }
     ensures scraped { (history : List Entry) → StandsFor history bucket.old →
         (answer : Answer)
-        × (scraped_row hash answer ≡ Some (option_to_list result))
+        × (scraped_row hash.now answer ≡ Some (option_to_list result))
         × StandsFor (history ++
         (record {
           caller = 0;
           minute = minute;
-          call = call.Scrape hash;
+          call = call.Scrape hash.now;
           answer = answer;
         }) ∷ []) bucket.new }
-    ensures some { (answer : Answer) × (scraped_row hash answer ≡ Some (option_to_list result)) }
+    ensures some { (answer : Answer)
+        × (scraped_row hash.now answer ≡ Some (option_to_list result)) }
 {
-    match bucket.call(0, minute, Call::Scrape { hash }, &NO_WORDS) {
-        Answer::Stats {
+    let (counts, known) = bucket.scrape(0, minute, hash);
+    if known {
+        Some(Row {
+            hash: *hash,
             counts,
-            known: true,
-        } => Some(Row { hash, counts }),
-        Answer::Stats { .. } => None,
-        Answer::Told { .. }
-        | Answer::Rows { .. }
-        | Answer::Cleaned { .. }
-        | Answer::Applied
-        | Answer::Drained { .. }
-        | Answer::SwarmFull { .. }
-        | Answer::BucketFull { .. }
-        | Answer::NoMemory => unreachable!(),
+        })
+    } else {
+        None
     }
 }

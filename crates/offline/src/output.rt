@@ -6,12 +6,13 @@ ghost use Rattle.hex.specs.Hex.{encode_lower};
 ghost use Rattle.tracker_core.specs.declared.udp_plan.UdpPlan.{UdpPlan};
 ghost use Rattle.tracker_model.specs.declared.answer.Answer.{Answer};
 ghost use Rattle.offline.specs.Outcome.{HasRoom, IsOutcome};
-ghost use Rattle.offline.specs.Records.{datagram_output, reply_line, sent_line, silent_line};
+ghost use Rattle.offline.specs.Records.{cleaned_line, datagram_output, reply_line, sent_line, silent_line};
 ghost use Rattle.lines.specs.Replies.{Adds, Loses};
 ghost use Rattle.lines.specs.Streams.{IsLaterSink};
 ghost use Rattle.ot_io.specs.Counts.{Rose};
 
 use crate::carry_out::Outcome;
+use itoa::Buffer;
 use lines::{Replies, WriteFault};
 use ot_base::Bytes;
 use ot_io::Sink;
@@ -69,6 +70,20 @@ fn write_silent_line(quiet: Quiet, out: &mut [u8; OUTPUT_ROOM]) -> usize
     };
     out[..line.len()].copy_from_slice(line.as_bytes());
     line.len()
+}
+
+/// Writes the output line of a cleaning that left so many peers, and tells how many bytes that is.
+pub fn write_cleaned_line(held: u64, out: &mut [u8; OUTPUT_ROOM]) -> usize
+    ensures line { take result out.new ≡ cleaned_line held }
+    ensures fits { result ≤ OUTPUT_ROOM }
+{
+    let mut buffer = Buffer::new();
+    let digits = buffer.format(held).as_bytes();
+    let end = 2 + digits.len();
+    out[..2].copy_from_slice(b"C ");
+    out[2..end].copy_from_slice(digits);
+    out[end] = b'\n';
+    end + 1
 }
 
 /// Writes bytes as lower-case hex digits.

@@ -4,9 +4,9 @@ ghost use Rattle.std.specs.Prelude.{◌≡◌, [], false, IfOk};
 ghost use Rattle.tracker_model.specs.Stands.{StandsFor};
 ghost use Rattle.offline.specs.Replay.{usual_settings};
 
-use crate::carry_out::carry_out;
+use crate::carry_out::{carry_out, clean};
 use crate::connection::serve;
-use crate::output::{OUTPUT_ROOM, add_sent_line, write_outcome};
+use crate::output::{OUTPUT_ROOM, add_sent_line, write_cleaned_line, write_outcome};
 use bucket::Bucket;
 use lines::{Replies, Responder, Trouble};
 use ot_base::{Limits, Minute, Secret};
@@ -72,6 +72,7 @@ impl Responder for Replay {
         match read_record(line, &mut self.bytes) {
             Ok(Record::Datagram(received)) => self.answer_datagram(received, replies, out),
             Ok(Record::Connection(received)) => self.answer_connection(received, replies, out),
+            Ok(Record::Clean { seconds }) => self.clean(seconds, replies, out),
             Err(fault) => Err(Trouble::Refused(LineFault::Trace(fault))),
         }
     }
@@ -141,6 +142,26 @@ impl Replay {
         let plan = plan_connection(self.alloc, bytes, received.from, false)?;
         let sent = serve(self.alloc, &mut self.bucket, minute, &plan)?;
         add_sent_line(replies, out, &sent, &mut self.output)?;
+        Ok(())
+    }
+    /// Cleans at a second, and adds the output line.
+    fn clean<O: Sink>(
+        &mut self,
+        seconds: u64,
+        replies: &mut Replies,
+        out: &mut O,
+    ) -> Result<(), Trouble<LineFault>>
+        ensures responds { (line : List ℕ) →
+            line_of line ≡ Ok (line_in (Record.Clean seconds) self.old.bytes) →
+            Responds Follows RefusesLine self.old self.new line
+            (O.written out.old) (O.written out.new) replies.old replies.new result }
+        ensures fault { result ≡ Err Trouble.WriteFault
+            → Rose (O.faults out.old) (O.faults out.new) }
+        ensures later { IsLaterSink O.faults O.aside out.old out.new }
+    {
+        let held = clean(&mut self.bucket, Minute::of_seconds(seconds));
+        let len = write_cleaned_line(held, &mut self.output);
+        replies.add(out, &self.output[..len])?;
         Ok(())
     }
 }

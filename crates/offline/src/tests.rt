@@ -68,7 +68,8 @@ fn each_bad_line_is_told_and_keeps_what_was_answered(rt: HostRuntime) -> Result<
         ("", TraceFault::Form, "form"),
         ("U 0 192.0.2.1 5000", TraceFault::Form, "form"),
         ("X 0 192.0.2.1 5000 00", TraceFault::Form, "form"),
-        ("C 0", TraceFault::Unbuilt, "unbuilt"),
+        ("C 0 0", TraceFault::Form, "form"),
+        ("C -1", TraceFault::Number, "number"),
         ("H x y z ?", TraceFault::Number, "number"),
         ("H 0 192.0.2.1 5000 4", TraceFault::Hex, "hex"),
         (

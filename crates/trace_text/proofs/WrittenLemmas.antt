@@ -18,7 +18,7 @@ use Rattle.ot_base.specs.declared.address.Endpoint.{Endpoint}
 use Rattle.trace_text.specs.Trace.{parts_of, number_of, seconds_of, port_of, has_leading_zero, octet_of, is_six, address_of, arrival_of, fields_line, line_of}
 use Rattle.trace_text.specs.Written.{IsArrival, IsOfFour, AllCount, dotted_text, five_fields, text_of}
 use Rattle.trace_text.specs.declared.line.TraceLine.{TraceLine}
-use Rattle.trace_text.specs.declared.line.TraceLine.TheVariants.{Udp, Http}
+use Rattle.trace_text.specs.declared.line.TraceLine.TheVariants.{Udp, Http, Clean}
 
 -- the digits of a number
 all_digits : (n : ℕ) → n < 2 ^ 64 → (i : ℕ) → i < length (decimal n) → (48 ≤ get_or (decimal n) i 0) × (get_or (decimal n) i 0 ≤ 57)
@@ -206,6 +206,13 @@ fields_again kind seconds from bytes letters h =
 letter_no_space : (letter : ℕ) → (letter == 32) ≡ false → All IsNoSpace (letter ∷ [])
 letter_no_space letter other = All-cons IsNoSpace letter [] other (λ i d lt. absurd (omega arith))
 
+-- a written round of the cleaner is cut into its two fields
+clean_parts : (seconds : ℕ) → seconds < 2 ^ 64
+    → parts_of 32 (codes "C " ++ decimal seconds) ≡ codes "C" ∷ decimal seconds ∷ []
+clean_parts seconds h =
+    part 32 (codes "C") (decimal seconds) refl (letter_no_space 67 refl)
+    ∙ ap (λ l. codes "C" ∷ l) (last_part 32 (decimal seconds) (number_no_space seconds h))
+
 pub line_again : (line : TraceLine) → IsOfFour line → AllCount line → line_of (text_of line) ≡ Ok line
 line_again (Udp seconds from bytes) h few =
     let again = fields_again (codes "U") seconds from bytes (letter_no_space 85 refl) h in
@@ -213,3 +220,4 @@ line_again (Udp seconds from bytes) h few =
 line_again (Http seconds from bytes) h few =
     let again = fields_again (codes "H") seconds from bytes (letter_no_space 72 refl) h in
     ap fields_line again.parts ∙ rw (again.read 8192 few) refl
+line_again (Clean seconds) h few = ap fields_line (clean_parts seconds h) ∙ rw (seconds_again seconds h) refl

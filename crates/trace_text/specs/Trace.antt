@@ -1,5 +1,5 @@
 -- One line of a trace: what it records, or the fault of its first bad part.
-use Rattle.std.specs.Prelude.{ℕ, ◌-◌, ◌^◌, ◌≡◌, ◌≤◌, ◌==◌, ◌&&◌, nat_lt, nat_le, Bool, if◌then◌else◌, List, [], ◌∷◌, length, take, slice_index, codes, Option, Some, None, Result, Ok, Err}
+use Rattle.std.specs.Prelude.{ℕ, ◌-◌, ◌^◌, ◌≡◌, ◌≤◌, ◌==◌, ◌&&◌, nat_lt, nat_le, Bool, if◌then◌else◌, List, [], ◌∷◌, length, take, slice_index, codes, Option, Some, None, Result, Ok, Err, ⊤}
 use Rattle.std.specs.Char.{is_ascii_digit}
 use Rattle.std.specs.List.{slice_split, list_all}
 use Rattle.std.specs.Option.{ok_or}
@@ -15,10 +15,10 @@ use Rattle.ot_base.specs.declared.address.Family.TheVariants.{Four}
 use Rattle.ot_base.specs.declared.fault.TraceFault.{TraceFault}
 use Rattle.ot_base.specs.declared.fault.TraceFault.TheVariants.{Form, Number, Hex, Address, Unbuilt}
 use Rattle.trace_text.specs.declared.line.TraceLine.{TraceLine}
-use Rattle.trace_text.specs.declared.line.TraceLine.TheVariants.{Udp, Http}
+use Rattle.trace_text.specs.declared.line.TraceLine.TheVariants.{Udp, Http, Clean}
 use Rattle.trace_text.specs.declared.records.Received.{Received}
 use Rattle.trace_text.specs.declared.records.Record.{Record}
-use Rattle.trace_text.specs.declared.records.Record.TheVariants.{Datagram, Connection}
+use Rattle.trace_text.specs.declared.records.Record.TheVariants as read
 
 -- something that came: the second, from whom, and those of its bytes that count
 pub record Arrival : Type 0 where
@@ -112,13 +112,19 @@ connection_of time address port hex = do
   arrival ← arrival_of 8192 time address port hex
   Ok (connection_line arrival)
 
--- what the fields of a line record; a round of the cleaner isn't answered yet
+-- the cleaner goes once over all buckets at that time
+abbrev pub clean_of : List ℕ → Result TraceLine TraceFault
+clean_of time = do
+  seconds ← seconds_of time
+  Ok (Clean seconds)
+
+-- what the fields of a line record, by its kind
 abbrev pub fields_line : List (List ℕ) → Result TraceLine TraceFault
 fields_line (kind ∷ time ∷ address ∷ port ∷ hex ∷ []) =
     if bytes_eq kind (codes "U") then datagram_of time address port hex
     else if bytes_eq kind (codes "H") then connection_of time address port hex
     else Err Form
-fields_line (kind ∷ time ∷ []) = if bytes_eq kind (codes "C") then Err Unbuilt else Err Form
+fields_line (kind ∷ time ∷ []) = if bytes_eq kind (codes "C") then clean_of time else Err Form
 fields_line fields = Err Form
 
 -- what a line records, its fields cut at each space (32)
@@ -135,15 +141,18 @@ arrival_in received buffer = record {
 
 -- what the record that was read says, its bytes at the front of a buffer
 abbrev pub line_in : Record → List ℕ → TraceLine
-line_in (Datagram received) buffer = datagram_line (arrival_in received buffer)
-line_in (Connection received) buffer = connection_line (arrival_in received buffer)
+line_in (read.Datagram received) buffer = datagram_line (arrival_in received buffer)
+line_in (read.Connection received) buffer = connection_line (arrival_in received buffer)
+line_in (read.Clean seconds) buffer = Clean seconds
 
--- it came from an IPv4 address
+-- what came, came from an IPv4 address
 abbrev pub IsFromFour : Record → Type 0
-IsFromFour (Datagram received) = family_of received.from.addr ≡ Four
-IsFromFour (Connection received) = family_of received.from.addr ≡ Four
+IsFromFour (read.Datagram received) = family_of received.from.addr ≡ Four
+IsFromFour (read.Connection received) = family_of received.from.addr ≡ Four
+IsFromFour (read.Clean seconds) = ⊤
 
 -- it has no more bytes than count of its kind
 abbrev pub IsWithinLimit : Record → Type 0
-IsWithinLimit (Datagram received) = received.len ≤ 2048
-IsWithinLimit (Connection received) = received.len ≤ 8192
+IsWithinLimit (read.Datagram received) = received.len ≤ 2048
+IsWithinLimit (read.Connection received) = received.len ≤ 8192
+IsWithinLimit (read.Clean seconds) = ⊤

@@ -31,6 +31,11 @@ pub enum TraceLine {
         /// Those of its bytes that count, the first 8,192 at most.
         bytes: Bytes,
     },
+    /// The cleaner goes once over all buckets.
+    Clean {
+        /// When it does, in seconds.
+        seconds: u64,
+    },
 }
 
 /// Reads a line, given without the byte 0x0A at its end. The form of a line, and the faults, are
@@ -76,6 +81,7 @@ fn owned(
             from: received.from,
             bytes: copied(alloc, &buffer[..received.len])?,
         }),
+        Record::Clean { seconds } => Ok(TraceLine::Clean { seconds }),
     }
 }
 
@@ -101,6 +107,7 @@ pub fn write_line(alloc: Global, line: &TraceLine) -> Result<Bytes, AllocError>
             from,
             bytes,
         } => write_fields(alloc, b"H", *seconds, *from, bytes.as_slice()),
+        TraceLine::Clean { seconds } => write_clean(alloc, *seconds),
     }
 }
 
@@ -132,6 +139,15 @@ fn write_fields(
     push_number(&mut text, u64::from(from.port))?;
     push_all(&mut text, b" ")?;
     push_hex(&mut text, alloc, bytes)?;
+    Ok(text)
+}
+
+/// Writes the line of a round of the cleaner.
+fn write_clean(alloc: Global, seconds: u64) -> Result<Bytes, AllocError>
+    ensures { IfOk result (λ text. text ≡ codes "C " ++ decimal seconds) }
+{
+    let mut text = copied(alloc, b"C ")?;
+    push_number(&mut text, seconds)?;
     Ok(text)
 }
 

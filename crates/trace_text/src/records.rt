@@ -5,6 +5,7 @@ ghost use Rattle.hex.specs.Hex.{decode_of};
 ghost use Rattle.ot_base.specs.Address.{family_of};
 ghost use Rattle.ot_base.specs.declared.address.Family.TheVariants.{Four};
 ghost use Rattle.trace_text.specs.Trace.{line_of, fields_line, arrival_of, parts_of, counted_of, arrival_in, line_in, IsFromFour, IsWithinLimit};
+ghost use Rattle.trace_text.specs.declared.line.TraceLine.TheVariants.{Clean};
 
 use crate::fields::{all_hex_digits, read_address, read_port, read_seconds};
 use crate::parts::{four_parts, split_once};
@@ -23,6 +24,11 @@ pub enum Record {
     Datagram(Received),
     /// All that one TCP connection sends before it ends.
     Connection(Received),
+    /// The cleaner goes once over all buckets.
+    Clean {
+        /// When it does, in seconds.
+        seconds: u64,
+    },
 }
 
 /// What came, of which the bytes stand at the front of the buffer that it was read with.
@@ -40,7 +46,8 @@ pub struct Received {
 /// - `U seconds address port hex`: a datagram from that endpoint at that time, of which the first
 ///   2,048 bytes count;
 /// - `H seconds address port hex`: all that one connection from that endpoint sends before it ends,
-///   of which the first 8,192 bytes count.
+///   of which the first 8,192 bytes count;
+/// - `C seconds`: the cleaner goes once over all buckets at that time, and no byte counts.
 ///
 /// The bytes that count go to the front of `bytes`; nothing is said of what stands behind them, and
 /// after a fault of what `bytes` holds.
@@ -55,7 +62,6 @@ pub struct Received {
 /// The first of these that the line gives cause for:
 /// - `Form` where the first field is none of the letters `U`, `H` and `C`, or where the fields
 ///   aren't 5, 5 or 2 for these in turn;
-/// - `Unbuilt` where the first field is `C`, whatever stands in the other;
 /// - `Number` where the seconds aren't such digits;
 /// - `Unbuilt` where the address is 32 hex digits, an IPv6 address, and `Address` where it isn't
 ///   one;
@@ -71,7 +77,8 @@ pub fn read_record(line: &[u8], bytes: &mut [u8; RECORD_BYTES]) -> Result<Record
         return Err(TraceFault::Form);
     };
     if kind == b"C".as_slice() {
-        return Err(cleaner_fault(fields));
+        let seconds = read_clean(fields)?;
+        return Ok(Record::Clean { seconds });
     }
     let Some((time, address, port, hex)) = four_parts(fields, b' ') else {
         return Err(TraceFault::Form);
@@ -87,14 +94,16 @@ pub fn read_record(line: &[u8], bytes: &mut [u8; RECORD_BYTES]) -> Result<Record
     }
 }
 
-/// The fault of a line whose first field is `C`, by what stands after it: one field more is the
-/// form.
-fn cleaner_fault(fields: &[u8]) -> TraceFault
-    ensures { fields_line (codes "C" ∷ parts_of 32 fields.now) ≡ Err result }
+/// Reads what stands after the first field of a line where that is `C`: the seconds alone.
+fn read_clean(fields: &[u8]) -> Result<u64, TraceFault>
+    ensures read { IfOk result (λ seconds.
+        fields_line (codes "C" ∷ parts_of 32 fields.now) ≡ Ok (Clean seconds)) }
+    ensures refused { IfErr result (λ fault.
+        fields_line (codes "C" ∷ parts_of 32 fields.now) ≡ Err fault) }
 {
     match split_once(fields, b' ') {
-        Some(_) => TraceFault::Form,
-        None => TraceFault::Unbuilt,
+        Some(_) => Err(TraceFault::Form),
+        None => read_seconds(fields),
     }
 }
 

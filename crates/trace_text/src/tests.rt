@@ -22,6 +22,8 @@ const REQUEST: &[u8] = b"GET / HTTP/1.1\r\n\r\n";
 
 const REQUEST_LINE: &[u8] = b"H 1 192.0.2.1 5000 474554202f20485454502f312e310d0a0d0a";
 
+const CLEAN_LINE: &[u8] = b"C 60";
+
 fn fault_of(line: &[u8]) -> Option<TraceFault> {
     let mut bytes = [0; RECORD_BYTES];
     read_record(line, &mut bytes).err()
@@ -70,6 +72,10 @@ fn a_line_gives_its_parts(rt: HostRuntime) -> Result<(), Fail> {
         Record::Connection(connection)
     );
     assert_eq!(rt; &bytes[..REQUEST.len()], REQUEST);
+    assert_eq!(rt;
+        read_record(CLEAN_LINE, &mut bytes)?,
+        Record::Clean { seconds: 60 }
+    );
     Ok(())
 }
 
@@ -90,11 +96,16 @@ fn lines_read_back(rt: HostRuntime) -> Result<(), Fail> {
         write_line(rt.alloc(), &connection)?.as_slice(),
         REQUEST_LINE
     );
+    let clean = TraceLine::Clean { seconds: 60 };
+    assert_eq!(rt; write_line(rt.alloc(), &clean)?.as_slice(), CLEAN_LINE);
     for text in [
         LINE,
         REQUEST_LINE,
+        CLEAN_LINE,
         b"U 2 10.0.0.1 1 ",
         b"H 3 10.0.0.1 65535 ",
+        b"C 0",
+        b"C 18446744073709551615",
     ] {
         let line = read_line(rt.alloc(), text)?;
         let label = format!(in rt.alloc(); "{line:?}")?;
@@ -242,8 +253,26 @@ fn the_ends_of_the_ranges_are_read(rt: HostRuntime) -> Result<(), Fail> {
 
 /// Each line is its own label.
 #[test]
+fn rounds_of_the_cleaner_are_read(rt: HostRuntime) -> Result<(), Fail> {
+    let lines: [(&str, u64); 5] = [
+        ("C 0", 0),
+        ("C 7", 7),
+        ("C 18446744073709551615", u64::MAX),
+        ("C 00000000000000000060", 60),
+        ("C 10000000000000000000", 10_000_000_000_000_000_000),
+    ];
+    let mut bytes = [9; RECORD_BYTES];
+    for (line, seconds) in lines {
+        let record = read_record(line.as_bytes(), &mut bytes)?;
+        assert_eq!(rt; record, Record::Clean { seconds }, "{line}");
+    }
+    Ok(())
+}
+
+/// Each line is its own label.
+#[test]
 fn bad_lines_are_refused(rt: HostRuntime) {
-    let lines: [(&str, TraceFault); 65] = [
+    let lines: [(&str, TraceFault); 80] = [
         ("", Form),
         (" ", Form),
         ("U", Form),
@@ -263,7 +292,15 @@ fn bad_lines_are_refused(rt: HostRuntime) {
         ("h 0 192.0.2.1 5000 00", Form),
         ("H 0 192.0.2.1 5000 00 ", Form),
         ("C 0 1", Form),
+        ("C 0 ", Form),
+        ("C  0", Form),
+        ("C x y", Form),
         ("C 0 192.0.2.1 5000 00", Form),
+        ("c 0", Form),
+        ("CC 0", Form),
+        ("C\t0", Form),
+        ("X 0", Form),
+        ("U 0", Form),
         ("U  192.0.2.1 5000 00", Number),
         ("U 18446744073709551616 192.0.2.1 5000 00", Number),
         ("U 99999999999999999999 192.0.2.1 5000 00", Number),
@@ -306,9 +343,16 @@ fn bad_lines_are_refused(rt: HostRuntime) {
         ("H 0 192.0.2.1 65536 0", Number),
         ("H 0 192.0.2.1 5000 0", Hex),
         ("H 0 192.0.2.1 5000 474g", Hex),
-        ("C 0", Unbuilt),
-        ("C x", Unbuilt),
-        ("C ", Unbuilt),
+        ("C x", Number),
+        ("C ", Number),
+        ("C +1", Number),
+        ("C -1", Number),
+        ("C 1:", Number),
+        ("C 1/", Number),
+        ("C 0\r", Number),
+        ("C 18446744073709551616", Number),
+        ("C 99999999999999999999", Number),
+        ("C 000000000000000000000", Number),
     ];
     for (line, fault) in lines {
         assert_eq!(rt; fault_of(line.as_bytes()), Some(fault), "{line}");

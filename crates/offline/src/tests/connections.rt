@@ -264,3 +264,17 @@ fn peers_meet_over_http(rt: HostRuntime) -> Result<(), Fail> {
     assert_eq!(rt; written.as_slice(), expected.as_bytes());
     Ok(())
 }
+
+/// The cleaner tells how many live peers are left: one for 45 minutes, and then none.
+#[test]
+fn the_cleaner_tells_what_is_left(rt: HostRuntime) -> Result<(), Fail> {
+    let sent = b"GET /announce?info_hash=12345678901234567890&port=1 HTTP/1.1\r\n\r\n";
+    let announce = line_of(rt.alloc(), 0, "192.0.2.1", sent)?;
+    let told = reply_of(rt.alloc(), "200 OK", LEECHER)?;
+    let trace = format!(in rt.alloc(); "C 0\n{announce}C 59\nC 2699\nC 2700\nC 00\n")?;
+    let expected = format!(in rt.alloc(); "C 0\n{told}C 1\nC 1\nC 0\nC 0\n")?;
+    let (status, written) = replayed(&rt, &trace)?;
+    assert_eq!(rt; status, Status::Done);
+    assert_eq!(rt; written.as_slice(), expected.as_bytes());
+    Ok(())
+}

@@ -13,3 +13,8 @@ pub returns-in-Ok-Connection-clause-responds : goal.returns-in-Ok-Connection-cla
 returns-in-Ok-Connection-clause-responds g c =
     responds_so _ c.args.self.now c.answer_connection.new.self c.args.line.now _ _ c.args.replies.now c.answer_connection.new.replies c.answer_connection.result refl refl
     (c.answer_connection.ensures.responds c.args.line.now (c.in-Ok-Connection.ensures.read ∙ ap (λ r. Ok (line_in r c.read_record.new.bytes)) c.in-Ok-Connection.field-0-is))
+
+pub returns-in-Ok-Clean-clause-responds : goal.returns-in-Ok-Clean-clause-responds
+returns-in-Ok-Clean-clause-responds g c =
+    responds_so _ c.args.self.now c.clean.new.self c.args.line.now _ _ c.args.replies.now c.clean.new.replies c.clean.result refl refl
+    (c.clean.ensures.responds c.args.line.now (c.in-Ok-Clean.ensures.read ∙ ap (λ r. Ok (line_in r c.read_record.new.bytes)) c.in-Ok-Clean.field-0-is))
