@@ -9,11 +9,14 @@ use Rattle.http_wire.specs.declared.reply.Code.TheVariants.{BadRequest, TooLarge
 use Rattle.tracker_core.specs.HttpPlan.{IsBounded, IsCompleteHttp, ScrapesInOrder, http_calls, http_plan}
 use Rattle.tracker_core.specs.declared.connection_plan.ConnectionPlan.{ConnectionPlan}
 use Rattle.tracker_core.specs.declared.connection_plan.ConnectionPlan.TheVariants.{More, Rejected, Planned}
-use Rattle.tracker_core.specs.declared.connection_plan.TheConstants.{HEAD_ROOM}
+
+-- how many bytes a head has at most
+abbrev pub head_room : ℕ
+head_room = 8192
 
 -- the bytes in which a head has to stand
 abbrev pub head_front : List ℕ → List ℕ
-head_front bytes = take HEAD_ROOM bytes
+head_front bytes = take head_room bytes
 
 -- the plan for bytes, by what they are as the beginning of a request
 abbrev pub plan_of_head : (bytes : List ℕ) → Endpoint → (full : Bool) → Head → ConnectionPlan
@@ -23,7 +26,7 @@ plan_of_head bytes from full (head.Whole get start end len) =
 plan_of_head bytes from full head.Bad = Rejected BadRequest
 plan_of_head bytes from full head.Many = Rejected TooLarge
 plan_of_head bytes from full head.More =
-    if nat_le HEAD_ROOM (length bytes) then Rejected TooLarge else More
+    if nat_le head_room (length bytes) then Rejected TooLarge else More
 
 -- a plan is one for all bytes that a connection has sent, of which the first 8,192 count
 pub record IsConnectionPlan (bytes : List ℕ) (from : Endpoint) (full : Bool)
@@ -38,6 +41,7 @@ connection_calls More = []
 connection_calls (Rejected code) = []
 connection_calls (Planned plan) = http_calls plan
 
+-- its plan is complete, and the torrents of a scrape ascend
 abbrev pub IsCompleteConnection : ConnectionPlan → Type 0
 IsCompleteConnection More = Unit {0}
 IsCompleteConnection (Rejected code) = Unit {0}

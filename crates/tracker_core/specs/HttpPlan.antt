@@ -75,7 +75,8 @@ named_call from pairs hash port =
     (is_done pairs) (peers_wanted (first_number pairs (codes "numwant")))
 
 -- an announce is refused for its torrent first, then for its port; else its call is made
-abbrev pub judged_plan : Endpoint → List Pair → Result InfoHash Refusal → Result ℕ Refusal → HttpPlan
+abbrev pub judged_plan : Endpoint → List Pair → Result InfoHash Refusal → Result ℕ Refusal
+    → HttpPlan
 judged_plan from pairs (Err why) port = Refused why
 judged_plan from pairs (Ok hash) (Err why) = Refused why
 judged_plan from pairs (Ok hash) (Ok port) = Announce (named_call from pairs hash port)

@@ -25,9 +25,6 @@ use tracker_model::Answer;
 /// How many bytes tell an announce of all but its peers, at most.
 const TOLD_ROOM: usize = 132;
 
-/// How many bytes tell a scrape of all but its torrents.
-const SCRAPE_ROOM: usize = 11;
-
 /// How many bytes the row of a torrent has at most.
 const ROW_ROOM: usize = 97;
 
@@ -84,18 +81,33 @@ pub fn finish_scrape(alloc: Global, rows: &Rows) -> Result<Bytes, AllocError>
     ensures text { IfOk result (λ body. body ≡ scrape_body rows.now) }
     ensures canonical { IfOk result IsCanonical }
 {
-    let rows = rows.as_slice();
+    rows_between(alloc, b"d5:filesd", rows.as_slice(), b"ee")
+}
+
+/// The rows of torrents in order, with what stands before and behind them. The body of a scrape is
+/// such a piece, or made of several.
+pub fn rows_between(
+    alloc: Global,
+    front: &[u8],
+    rows: &[Row],
+    back: &[u8],
+) -> Result<Bytes, AllocError>
+    ensures text { IfOk result (λ text.
+        text ≡ front.now ++ (flat_map row_text rows.now ++ back.now)) }
+    ensures typed { OnOk result (All IsRow rows.now) }
+{
     let room = rows
         .len()
         .saturating_mul(ROW_ROOM)
-        .saturating_add(SCRAPE_ROOM);
-    let mut body = Vec::with_capacity(alloc, room)?;
-    body.extend_from_slice(b"d5:filesd")?;
+        .saturating_add(front.len())
+        .saturating_add(back.len());
+    let mut text = Vec::with_capacity(alloc, room)?;
+    text.extend_from_slice(front)?;
     'rows: for row in rows {
-        append_row(&mut body, row)?;
+        append_row(&mut text, row)?;
     }
-    body.extend_from_slice(b"ee")?;
-    Ok(Bytes::from(body))
+    text.extend_from_slice(back)?;
+    Ok(Bytes::from(text))
 }
 
 /// The body that tells why a request is refused.

@@ -14,6 +14,6 @@ pub mod udp_text;
 
 pub use connection_plan::{ConnectionPlan, plan_connection};
 pub use http_plan::{HttpPlan, plan_http};
-pub use http_text::{finish_announce, finish_scrape, refused_body};
+pub use http_text::{finish_announce, finish_scrape, refused_body, rows_between};
 pub use udp_plan::{UdpPlan, plan_udp};
 pub use udp_text::finish_udp;
