@@ -11,7 +11,7 @@ use Rattle.tracker_core.specs.declared.http_plan.HttpPlan.{HttpPlan}
 use Rattle.tracker_core.specs.declared.http_plan.HttpPlan.TheVariants as http
 use Rattle.tracker_core.specs.declared.udp_plan.UdpPlan.{UdpPlan}
 use Rattle.tracker_core.specs.declared.udp_plan.UdpPlan.TheVariants.{Announce}
-use Rattle.tracker_core.specs.Placed.{bucket_for}
+use Rattle.tracker_model.specs.Placed.{bucket_for}
 use Rattle.tracker_model.specs.Grows.{GrowsAlone, Move}
 use Rattle.tracker_model.specs.Legal.{IsLegalHistory}
 use Rattle.tracker_model.specs.Settings.{Settings}

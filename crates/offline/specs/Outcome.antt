@@ -7,7 +7,7 @@ use Rattle.ot_base.specs.declared.minute.Minute.{Minute}
 use Rattle.ot_base.specs.declared.peer.Counts.{Counts}
 use Rattle.tracker_core.specs.ConnectionPlan.{connection_calls}
 use Rattle.tracker_core.specs.HttpText.{connection_text}
-use Rattle.tracker_core.specs.Placed.{moves_of, placed_calls}
+use Rattle.tracker_model.specs.Placed.{moves_of, placed_calls}
 use Rattle.tracker_core.specs.UdpPlan.{calls_of}
 use Rattle.tracker_core.specs.UdpText.{all_counts, announce_text, udp_text}
 use Rattle.tracker_core.specs.declared.connection_plan.ConnectionPlan.{ConnectionPlan}

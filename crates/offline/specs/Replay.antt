@@ -5,7 +5,7 @@ use Rattle.ot_base.specs.declared.hash.Secret.{Secret}
 use Rattle.ot_base.specs.declared.minute.Minute.{Minute}
 use Rattle.ot_io.specs.declared.status.LineFault.{LineFault}
 use Rattle.ot_io.specs.declared.status.LineFault.TheVariants.{Trace}
-use Rattle.tracker_core.specs.Placed.{moves_of, placed_calls}
+use Rattle.tracker_model.specs.Placed.{moves_of, placed_calls}
 use Rattle.tracker_model.specs.Grows.{GrowsAlone}
 use Rattle.tracker_model.specs.Settings.{Settings}
 use Rattle.tracker_model.specs.declared.answer.Answer.{Answer}

@@ -12,7 +12,7 @@ ghost use Rattle.tracker_core.specs.HttpPlan.{IsBounded, IsCompleteHttp, Scrapes
 ghost use Rattle.tracker_core.specs.HttpPlan.{http_calls};
 ghost use Rattle.tracker_core.specs.HttpText.{announce_body, family_asking, http_text, scrape_body};
 ghost use Rattle.tracker_core.specs.HttpText.{scraped_row, scraped_rows};
-ghost use Rattle.tracker_core.specs.Reports.{IsReport};
+ghost use Rattle.tracker_model.specs.Calls.{IsReport};
 ghost use Rattle.tracker_model.specs.Calls.{IsWellFormed};
 ghost use Rattle.tracker_model.specs.Stands.{StandsFor};
 ghost use Rattle.tracker_model.specs.declared.answer.Answer.{Answer};

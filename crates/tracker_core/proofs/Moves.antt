@@ -5,7 +5,7 @@ use Rattle.std.specs.Option.{option_and_then, option_map}
 use Rattle.ot_base.specs.declared.hash.InfoHash.{InfoHash}
 use Rattle.ot_base.specs.declared.minute.Minute.{Minute}
 use Rattle.ot_base.specs.declared.peer.Counts.{Counts}
-use Rattle.tracker_core.specs.Placed.{bucket_for, moves_of, placed_calls}
+use Rattle.tracker_model.specs.Placed.{bucket_for, moves_of, placed_calls}
 use Rattle.tracker_core.specs.UdpText.{all_counts, scraped_counts}
 use Rattle.tracker_model.specs.Grows.{Move, GrowsAlone, NoneBetween}
 use Rattle.tracker_model.specs.Legal.{IsLegalHistory}

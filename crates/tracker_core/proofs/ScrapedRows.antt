@@ -17,7 +17,7 @@ use Rattle.tracker_model.specs.declared.answer.Answer.TheVariants.{Told, Stats, 
 use Rattle.tracker_model.specs.declared.call.Call.{Call}
 use Rattle.tracker_model.specs.declared.call.Call.TheVariants.{Announce, Stop, Scrape, Scan, Clean, Sync, Drain}
 use Rattle.tracker_core.specs.HttpText.{family_asking, scraped_row, scraped_rows}
-use Rattle.tracker_core.specs.Reports.{IsReport}
+use Rattle.tracker_model.specs.Calls.{IsReport}
 use Rattle.tracker_core.proofs.OrderLemmas.{AreAbove}
 
 -- for now a peer that reports has an address of IPv4

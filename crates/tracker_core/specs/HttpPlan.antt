@@ -21,7 +21,8 @@ use Rattle.tracker_model.specs.declared.call.Call.TheVariants as call
 use Rattle.query_read.specs.Query.{Pair, number_of, target_of, values_of}
 use Rattle.query_read.specs.declared.target.Target.{Target}
 use Rattle.query_read.specs.declared.target.Target.TheVariants as target
-use Rattle.tracker_core.specs.Reports.{IsReport, listener_of, peers_wanted, report_call}
+use Rattle.tracker_model.specs.Calls.{IsReport}
+use Rattle.tracker_core.specs.Reports.{listener_of, peers_wanted, report_call}
 use Rattle.tracker_core.specs.declared.http_plan.HttpPlan.{HttpPlan}
 use Rattle.tracker_core.specs.declared.http_plan.HttpPlan.TheVariants.{NotFound, Refused, Announce, Scrape, Full}
 

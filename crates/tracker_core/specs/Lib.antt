@@ -1,7 +1,6 @@
 pub mod ConnectionPlan
 pub mod HttpPlan
 pub mod HttpText
-pub mod Placed
 pub mod Reports
 pub mod UdpPlan
 pub mod UdpText

@@ -5,7 +5,7 @@ use Rattle.ot_base.specs.declared.hash.InfoHash.{InfoHash}
 use Rattle.ot_base.specs.declared.peer.Event.{Event}
 use Rattle.ot_base.specs.declared.peer.Event.TheVariants as event
 use Rattle.tracker_model.specs.declared.call.Call.{Call}
-use Rattle.tracker_model.specs.declared.call.Call.TheVariants.{Announce, Stop, Scrape, Scan, Clean, Sync, Drain}
+use Rattle.tracker_model.specs.declared.call.Call.TheVariants.{Announce, Stop}
 
 -- how many peers are wanted where a client says this number: at most 200, and 50 where it says none
 abbrev pub peers_wanted : Option ℕ → ℕ
@@ -27,13 +27,3 @@ report_call event.Nothing hash who done want = joining_call hash who done false 
 report_call event.Started hash who done want = joining_call hash who done false want
 report_call event.Completed hash who done want = joining_call hash who done true want
 report_call event.Stopped hash who done want = Stop hash who
-
--- an announce or a stop
-abbrev pub IsReport : Call → Type 0
-IsReport (Announce hash who seed completed want) = Unit {0}
-IsReport (Stop hash who) = Unit {0}
-IsReport (Scrape hash) = ⊥
-IsReport Scan = ⊥
-IsReport Clean = ⊥
-IsReport (Sync hash who mark) = ⊥
-IsReport Drain = ⊥

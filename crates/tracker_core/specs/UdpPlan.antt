@@ -13,7 +13,7 @@ use Rattle.udp_wire.specs.declared.request.UdpAnnounce.{UdpAnnounce}
 use Rattle.udp_wire.specs.declared.request.Request.{Request}
 use Rattle.udp_wire.specs.declared.request.Request.TheVariants as request
 -- handed on to those that look for it here
-pub use Rattle.tracker_core.specs.Reports.{IsReport}
+pub use Rattle.tracker_model.specs.Calls.{IsReport}
 use Rattle.tracker_core.specs.Reports.{peers_wanted, listener_of, report_call}
 use Rattle.tracker_core.specs.declared.udp_plan.UdpPlan.{UdpPlan}
 use Rattle.tracker_core.specs.declared.udp_plan.UdpPlan.TheVariants.{Silent, Connected, Refused, Announce, Scrape}

@@ -8,7 +8,7 @@ ghost use Rattle.ot_base.specs.declared.address.Family.TheVariants.{Four};
 ghost use Rattle.query_read.specs.Query.{values_of};
 ghost use Rattle.tracker_model.specs.Calls.{IsWellFormed};
 ghost use Rattle.tracker_model.specs.Counted.{put_in_order};
-ghost use Rattle.tracker_core.specs.Reports.{IsReport};
+ghost use Rattle.tracker_model.specs.Calls.{IsReport};
 ghost use Rattle.tracker_core.specs.HttpPlan.{IsCompleteHttp, ScrapesInOrder, announce_plan};
 ghost use Rattle.tracker_core.specs.HttpPlan.{event_named, first_number, hash_named, hashes_named};
 ghost use Rattle.tracker_core.specs.HttpPlan.{http_calls, http_plan, named_call, port_named};

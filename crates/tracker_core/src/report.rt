@@ -1,7 +1,8 @@
 //! The call of a peer that announces or stops.
 
 ghost use Rattle.std.specs.Prelude.{◌≡◌};
-ghost use Rattle.tracker_core.specs.Reports.{IsReport, peers_wanted, report_call};
+ghost use Rattle.tracker_model.specs.Calls.{IsReport};
+ghost use Rattle.tracker_core.specs.Reports.{peers_wanted, report_call};
 
 use ot_base::{Endpoint, Event, InfoHash};
 use tracker_model::{Call, WANTED_PEERS};

@@ -6,7 +6,7 @@ ghost use Rattle.ot_base.specs.Address.{family_of};
 ghost use Rattle.ot_base.specs.declared.address.Family.TheVariants.{Four};
 ghost use Rattle.udp_wire.specs.Packets.{request_of};
 ghost use Rattle.tracker_model.specs.Calls.{IsWellFormed};
-ghost use Rattle.tracker_core.specs.Reports.{IsReport};
+ghost use Rattle.tracker_model.specs.Calls.{IsReport};
 ghost use Rattle.tracker_core.specs.UdpPlan.{IsComplete, announce_call, announce_plan, calls_of};
 ghost use Rattle.tracker_core.specs.UdpPlan.{udp_plan, wanted_peers};
 

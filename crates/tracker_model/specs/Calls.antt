@@ -38,6 +38,16 @@ is_request Clean = false
 is_request (Sync h who mark) = false
 is_request Drain = false
 
+-- an announce or a stop
+abbrev pub IsReport : Call → Type 0
+IsReport (Announce hash who seed completed want) = Unit {0}
+IsReport (Stop hash who) = Unit {0}
+IsReport (Scrape hash) = ⊥
+IsReport Scan = ⊥
+IsReport Clean = ⊥
+IsReport (Sync hash who mark) = ⊥
+IsReport Drain = ⊥
+
 -- the torrent and the endpoint that a call reports on
 abbrev pub subject : Call → Option (InfoHash × Endpoint)
 subject (Announce h who seed completed want) = Some (h, who)

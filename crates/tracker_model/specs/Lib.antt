@@ -8,7 +8,9 @@ pub mod Kinds
 pub mod Known
 pub mod Legal
 pub mod Live
+pub mod Making
 pub mod Outbox
+pub mod Placed
 pub mod Reports
 pub mod Right
 pub mod Settings

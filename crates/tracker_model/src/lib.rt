@@ -9,9 +9,11 @@ pub mod examples;
 pub mod laws;
 pub mod limits;
 pub mod stands;
+pub mod tracker;
 
 pub use answer::Answer;
 pub use call::Call;
 pub use entry::Entry;
 pub use limits::{OUTBOX_NOTES, PEER_MINUTES, TORRENT_MINUTES, WANTED_PEERS};
 pub use stands::Stands;
+pub use tracker::Tracker;
