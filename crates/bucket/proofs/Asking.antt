@@ -1,4 +1,5 @@
--- Stops, scrapes, scans and cleanings: what they make of the torrents, and that they tell what is right.
+-- Stops, scrapes, scans and cleanings: what they make of the torrents, and that they tell what is
+-- right.
 use Rattle.std.proofs.Common.{◌≡◌, ℕ, ◌<◌, Bool, true, false, List, [], ◌∷◌, ◌++◌, Option, Some, None, refl, sym, ◌∙◌, ap, subst, arith, length, map, get_or, cond, if◌then◌else◌}
 use Rattle.std.specs.List.{All, AllByRecursion, AllZip, filter, find, slice_get, sum_by, swap_remove}
 use Rattle.std.specs.Option.{is_some, option_map_or, MatchOption}

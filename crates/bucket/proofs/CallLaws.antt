@@ -1,6 +1,6 @@
--- What a call makes of a bucket, by the tables before and after it: it stands for the history with the call, and
--- keeps what it promises beside that.
-use Rattle.std.proofs.Common.{◌≡◌, ℕ, ◌≤◌, max, Bool, true, false, not, ◌&&◌, List, [], ◌∷◌, Option, Some, None, Result, Ok, Err, MatchResult, refl, sym, ◌∙◌, ap, subst, length, if◌then◌else◌}
+-- What a call makes of a bucket, by the tables before and after it: it stands for the history with
+-- the call, and keeps what it promises beside that.
+use Rattle.std.proofs.Common.{◌≡◌, ℕ, ◌≤◌, max, Bool, true, false, not, ◌&&◌, List, [], ◌∷◌, Option, Some, None, Result, Ok, Err, IfOk, MatchResult, refl, sym, ◌∙◌, ap, subst, length, if◌then◌else◌}
 use Rattle.std.specs.List.{All, AllByRecursion, AllZip, slice_get, slice_set, sum_by}
 use Rattle.std.specs.Option.{is_some, is_none, MatchOption}
 use Rattle.std.proofs.lemmas.List.Elements.{All-from_recursion, recursion_from_All}
@@ -15,6 +15,7 @@ use Rattle.ot_base.specs.declared.peer.Limits.{Limits}
 use Rattle.ot_base.specs.declared.peer.Row.{Row}
 use Rattle.tracker_model.specs.Calls.{IsWellFormed}
 use Rattle.tracker_model.specs.Kinds.{IsKindOf}
+use Rattle.tracker_model.specs.Making.{scanned}
 use Rattle.tracker_model.specs.Settings.{Settings}
 use Rattle.tracker_model.specs.Shape.{Shape, Torrent, peers_of, held_of, torrent_of, is_live_in, is_known_in}
 use Rattle.tracker_model.specs.Stands.{IsTidy}
@@ -284,3 +285,8 @@ module _ (now : ℕ) (old new : Table) (it : Cleans now old new) where
     scan_wants_stands =
         stands_by now old it.forgotten new it.forgets it.stays sync alone caller minute later Scan NoMemory tt
         (scan_wants (record { limits = old.limits; sync = sync }) now it.forgotten.torrents new.torrents sound_kept sound_after it.freshens)
+
+    -- rows, or no memory for them
+    pub scanned_stands : {E : Type 0} (result : Result (List Row) E) → IfOk result (λ rows. AreRowsOf new rows) → StandsOn caller minute Scan (scanned result) (bucket_of sync old) (bucket_of sync new)
+    scanned_stands (Ok rows) are = scan_stands rows are
+    scanned_stands (Err error) none = scan_wants_stands

@@ -67,19 +67,18 @@ known_now time torrents h all = by_found time torrents h all (torrent_of torrent
         let known : is_known_in time t ≡ true = All-contains (λ x. is_known_in time x ≡ true) torrents t all (found_is torrents h t found).0 in
         found ∙ sym (ap (λ o. if_known time o) found ∙ ap (λ b. cond b (Some t) None) known)
 
-pub forgets_none : (limits : Limits) (start : ℕ) (ring : Ring InfoHash) (look : InfoHash → Option ℕ) (list : List Stored) (old : Table) → IsKept limits ring look list → table_by limits ring.time ring.pairs list ≡ old → start ≡ ring.time → Forgets (start + 0) old old
-forgets_none limits start ring look list old it view began =
+pub forgets_none : (limits : Limits) (time : ℕ) (ring : Ring InfoHash) (look : InfoHash → Option ℕ) (list : List Stored) (old : Table) → IsKept limits ring look list → table_by limits ring.time ring.pairs list ≡ old → time ≡ ring.time → Forgets time old old
+forgets_none limits time ring look list old it view now =
     let table = table_by limits ring.time ring.pairs list in
     let P : ℕ → Type 0 = λ t. Forgets t table table in
-    let Q : Table → Type 0 = λ v. Forgets (start + 0) v v in
-    let same : ring.time ≡ start + 0 = omega arith in
-    let now : Forgets ring.time table table = record {
+    let Q : Table → Type 0 = λ v. Forgets time v v in
+    let none : Forgets ring.time table table = record {
       limits = refl;
       time = refl;
       sound = sound_by limits ring look list it;
       found = λ h. known_now ring.time table.torrents h (known_by ring.time ring.pairs list it.young);
     } in
-    subst Q view (subst P same now)
+    subst Q view (subst P (sym now) none)
 
 -- who isn't known isn't known later
 unknown_later : (a b : ℕ) (t : Torrent) → a ≤ b → is_known_in a t ≡ false → is_known_in b t ≡ false

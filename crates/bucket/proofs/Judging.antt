@@ -1,5 +1,5 @@
--- A bucket that forgot what isn't known and then answered right by what was left stands for the history with the
--- entry.
+-- A bucket that forgot what isn't known and then answered right by what was left stands for the
+-- history with the entry.
 use Rattle.std.proofs.Common.{◌≡◌, ℕ, ◌+◌, ◌≤◌, max, min, Bool, true, false, not, ◌&&◌, ◌||◌, ◌==◌, List, [], ◌∷◌, ◌++◌, reverse, Option, Some, None, refl, sym, ◌∙◌, ap, subst, arith, length, nat_lt, if◌then◌else◌}
 use Rattle.std.specs.Bool.{MatchBool}
 use Rattle.std.specs.Option.{is_some, option_map_or}

@@ -21,3 +21,6 @@ mod PutLemmas
 mod RowLemmas
 mod SoundLemmas
 mod TableLemmas
+pub mod FollowLemmas
+pub mod ScanLemmas
+mod ShelfLemmas

@@ -1,4 +1,5 @@
--- A call's answer is right by what was left of the torrents before it, and makes the call's step from there.
+-- A call's answer is right by what was left of the torrents before it, and makes the call's step
+-- from there.
 use Rattle.std.proofs.Common.{◌≡◌, ℕ, zero, suc, ◌-◌, ◌≤◌, max, Bool, true, false, not, ◌&&◌, ◌||◌, ◌==◌, List, [], ◌∷◌, ◌++◌, Option, Some, None, Result, Ok, Err, MatchResult, refl, sym, ◌∙◌, ap, subst, arith, length, map, get_or, nat_lt, cond, if◌then◌else◌}
 use Rattle.std.specs.Bool.{MatchBool}
 use Rattle.std.specs.List.{All, AllByRecursion, AllZip, filter, position, slice_get, sum_by, swap_remove}

@@ -1,4 +1,5 @@
--- What is told of a torrent whose stored peers are all live: its counts, and the peers that words choose.
+-- What is told of a torrent whose stored peers are all live: its counts, and the peers that words
+-- choose.
 use Rattle.std.proofs.Common.{◌≡◌, ℕ, ◌+◌, ◌-◌, ◌<◌, ◌≤◌, min, Bool, true, false, not, ◌&&◌, ◌||◌, List, [], ◌∷◌, ◌++◌, Option, Some, None, inl, inr, refl, sym, ◌∙◌, ap, subst, arith, length, map, cond, nat_eq, nat_lt, get_or, if◌then◌else◌}
 use Rattle.std.proofs.lemmas.Bool.{cases_lt}
 use Rattle.std.proofs.lemmas.List.{append-nil, length-map, get_or-map}

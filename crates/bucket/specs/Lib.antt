@@ -3,6 +3,7 @@ pub mod Calls
 pub mod Changes
 pub mod Index
 pub mod Public
+pub mod Shelf
 pub mod Stored
 pub mod Table
 pub mod Torrents

@@ -32,7 +32,7 @@ pub record AreInOrder (old new : Torrent) : Type 0 where
   pub fours : endpoints_of new.fours ≡ endpoints_of old.fours
   pub sixes : endpoints_of new.sixes ≡ endpoints_of old.sixes
 
--- an announce by a peer of a torrent that is known, and whose peers are all live, leaves their order
+-- an announce by a peer of a torrent that is known and whose peers are all live leaves their order
 abbrev pub KeepsOrder : Call → (old new : Shape) → Type 0
 KeepsOrder (Announce h who seed completed want) old new =
     (before : Torrent) → torrent_of old.torrents h ≡ Some before →

@@ -103,7 +103,8 @@ pub fn clean<L: Ledger>(torrents: &mut Torrents, now: Minute, blank: Blank)
     torrents.refresh_all(&mut steps);
 }
 
-/// Lets an endpoint take part in its torrent, which may be a new one, and tells the torrent's place.
+/// Lets an endpoint take part in its torrent, which may be a new one, and tells the place of the
+/// torrent.
 fn join<L: Ledger>(
     torrents: &mut Torrents,
     joining: &Joining,

@@ -16,7 +16,8 @@ use std::alloc::{AllocError, Global};
 use std::sync::ledger::Ledger;
 use swarm::{Put, Swarm};
 
-/// What is stored of a torrent beside its hash and its touch, which stand in the ring of all torrents.
+/// What is stored of a torrent beside its hash and its touch, which stand in the ring of all
+/// torrents.
 #[derive(Drop)]
 pub struct Stored {
     /// How often it was downloaded since it is known, up to 4,294,967,295.
@@ -83,12 +84,17 @@ impl Stored {
         }
     }
 
-    /// Moves the time on. The peers that weren't heard of for 45 minutes or more go.
+    /// Moves the time on. The peers that weren't heard of for 45 minutes or more go. Where time
+    /// stands still this costs nothing.
     pub fn move_on<L: Ledger>(&mut self, now: Minute, steps: &mut Steps<L>)
         requires { self.old.swarm.time ≤ now.0 }
         ensures passes { PassesTo now.0 self.old self.new }
         ensures fit { (limit : ℕ) → peer_count self.old.swarm ≤ limit → IsFit limit now.0 self.new }
     {
+        if self.swarm.time() == now {
+            // Each peer is live already.
+            return;
+        }
         self.swarm.advance(now, steps);
         self.peers_are_tidy();
     }
@@ -116,8 +122,8 @@ impl Stored {
         Ok(())
     }
 
-    /// Lets an endpoint take part at the swarm's time. Only a new one may want memory, which changes
-    /// nothing.
+    /// Lets an endpoint take part at the swarm's time. Only a new one may want memory, which
+    /// changes nothing.
     fn put<L: Ledger>(&mut self, joining: &Joining, steps: &mut Steps<L>) -> Result<(), AllocError>
         requires { IsSome (place_of joining.now.who
             (of_family (family_of joining.now.who.addr) self.old.swarm)) ⊎

@@ -1,11 +1,12 @@
 //! What no clause says: worked values.
 
-ghost use Rattle.std.specs.Prelude.{◌≡◌, ◌≤◌, true, false};
-ghost use Rattle.tracker_model.specs.Calls.{IsPeer, IsWellFormed};
+ghost use Rattle.std.specs.Prelude.{◌≡◌, ◌≤◌, IfOk, true, false};
+ghost use Rattle.tracker_model.specs.Calls.{IsPeer, IsWellFormed, is_request};
 ghost use Rattle.tracker_model.specs.Settings.{AreLimits};
 ghost use Rattle.bucket.specs.Public.{is_own};
 
 mod random;
+mod shelves;
 
 use super::*;
 use ot_base::{Addr, Endpoint, InfoHash, Limits, Minute};
@@ -109,7 +110,8 @@ fn announce(hash: InfoHash, who: Endpoint, seed: bool, completed: bool, want: u3
     requires finished { completed ≡ true → seed ≡ true }
     requires wanted { want ≤ 200 }
     ensures formed { IsWellFormed result }
-    ensures request { is_own result ≡ true }
+    ensures own { is_own result ≡ true }
+    ensures request { is_request result ≡ true }
 {
     Call::Announce {
         hash,
@@ -123,7 +125,8 @@ fn announce(hash: InfoHash, who: Endpoint, seed: bool, completed: bool, want: u3
 fn call_of(hash: InfoHash, who: Endpoint, asks: Asks) -> Call
     requires peer { IsPeer who }
     ensures formed { IsWellFormed result }
-    ensures request { is_own result ≡ true }
+    ensures own { is_own result ≡ true }
+    ensures request { is_request result ≡ true }
 {
     match asks {
         Asks::Leecher => announce(hash, who, false, false, 50),
@@ -147,18 +150,18 @@ fn ask(bucket: &mut Bucket, minute: u32, call: Call, words: &[u32; 200]) -> Answ
     }
 }
 
+/// Compares an answer with what is wanted.
+fn expect(rt: &impl Abort, label: &str, answer: &Answer, want: Outcome) {
+    assert_eq!(rt; outcome_of(answer), want, "{label}");
+}
+
 fn follow(rt: &(impl Abort + AllocGlobal), limits: Limits, steps: &[Step]) -> Result<(), Fail>
     requires { AreLimits limits }
 {
     let mut bucket = Bucket::new(rt.alloc(), limits, false)?;
     for (label, minute, hash, n, asks, want) in steps {
-        let answer = ask(
-            &mut bucket,
-            *minute,
-            call_of(*hash, numbered(*n), *asks),
-            &WORDS,
-        );
-        assert_eq!(rt; outcome_of(&answer), *want, "{label}");
+        let call = call_of(*hash, numbered(*n), *asks);
+        expect(rt, label, &ask(&mut bucket, *minute, call, &WORDS), *want);
     }
     Ok(())
 }
@@ -300,21 +303,24 @@ fn stops_and_scrapes_keep_no_torrent_known(rt: HostRuntime) -> Result<(), Fail> 
     )
 }
 
-/// How many peers a newcomer is told among so many others.
-fn told_among(rt: &(impl Abort + AllocGlobal), others: u16, want: u32) -> Result<usize, Fail>
-    requires { want ≤ 200 }
+/// A bucket with so many peers of one torrent.
+fn with_others(alloc: Global, others: u16) -> Result<Bucket, AllocError>
+    ensures { IfOk result (λ bucket. bucket.settings.sync ≡ false) }
 {
-    let mut bucket = Bucket::new(rt.alloc(), USUAL, false)?;
+    let mut bucket = Bucket::new(alloc, USUAL, false)?;
     for n in 0..others {
         let [high, low] = n.to_be_bytes();
-        ask(
-            &mut bucket,
-            0,
-            announce(A, at([10, 0, high, low]), false, false, 0),
-            &WORDS,
-        );
+        let call = announce(A, at([10, 0, high, low]), false, false, 0);
+        ask(&mut bucket, 0, call, &WORDS);
     }
-    assert_eq!(rt; bucket.held(), u64::from(others));
+    Ok(bucket)
+}
+
+/// How many peers a newcomer is told among so many others.
+fn told_among(alloc: Global, others: u16, want: u32) -> Result<usize, AllocError>
+    requires { want ≤ 200 }
+{
+    let mut bucket = with_others(alloc, others)?;
     let newcomer = announce(A, numbered(1), false, false, want);
     match ask(&mut bucket, 0, newcomer, &WORDS) {
         Answer::Told { peers, .. } => Ok(peers.len()),
@@ -333,30 +339,32 @@ fn as_many_peers_as_are_wanted(rt: HostRuntime) -> Result<(), Fail> {
         (0, 200, 0),
         (1000, 200, 200),
     ] {
-        assert_eq!(&rt; told_among(&rt, others, want)?, told, "{want} of {others}");
+        let len = told_among(rt.alloc(), others, want)?;
+        assert_eq!(&rt; len, told, "{want} of {others}");
     }
     Ok(())
 }
 
+/// Asks, and compares the bucket's time and how many peers it has then with what is wanted.
+fn check_stored(rt: &impl Abort, bucket: &mut Bucket, minute: u32, call: Call, want: (u32, u64))
+    requires formed { IsWellFormed call }
+    requires alone { bucket.old.settings.sync ≡ false }
+    requires request { is_own call ≡ true }
+    ensures { bucket.new.settings ≡ bucket.old.settings }
+{
+    ask(bucket, minute, call, &WORDS);
+    assert_eq!(rt; (bucket.time().0, bucket.held()), want, "at {minute}");
+}
+
 #[test]
 fn time_and_stored_peers(rt: HostRuntime) -> Result<(), Fail> {
+    use Asks::{Leecher, Stop};
     let mut bucket = Bucket::new(rt.alloc(), USUAL, false)?;
-    assert_eq!(rt; (bucket.time(), bucket.held()), (Minute(0), 0));
-    ask(
-        &mut bucket,
-        8,
-        call_of(A, numbered(1), Asks::Leecher),
-        &WORDS,
-    );
-    ask(
-        &mut bucket,
-        7,
-        call_of(B, numbered(1), Asks::Leecher),
-        &WORDS,
-    );
-    assert_eq!(rt; (bucket.time(), bucket.held()), (Minute(8), 2));
-    ask(&mut bucket, 9, call_of(B, numbered(1), Asks::Stop), &WORDS);
-    assert_eq!(rt; (bucket.time(), bucket.held()), (Minute(9), 1));
+    let who = numbered(1);
+    check_stored(&rt, &mut bucket, 0, Call::Clean, (0, 0));
+    check_stored(&rt, &mut bucket, 8, call_of(A, who, Leecher), (8, 1));
+    check_stored(&rt, &mut bucket, 7, call_of(B, who, Leecher), (8, 2));
+    check_stored(&rt, &mut bucket, 9, call_of(B, who, Stop), (9, 1));
     Ok(())
 }
 
@@ -368,6 +376,24 @@ fn touches(alloc: Global, bucket: &Bucket) -> Result<Vec<(InfoHash, u32)>, Alloc
         touches.push((ring.item(i), ring.stamp(i)))?;
     }
     Ok(touches)
+}
+
+/// Asks as a leecher, and compares the touches then with those that are wanted.
+fn check_touches(
+    rt: &(impl Abort + AllocGlobal),
+    bucket: &mut Bucket,
+    minute: u32,
+    hash: InfoHash,
+    label: &str,
+    want: &[(InfoHash, u32)],
+) -> Result<(), AllocError>
+    requires { bucket.old.settings.sync ≡ false }
+    ensures { bucket.new.settings ≡ bucket.old.settings }
+{
+    let call = call_of(hash, numbered(1), Asks::Leecher);
+    ask(bucket, minute, call, &WORDS);
+    assert_eq!(rt; touches(rt.alloc(), bucket)?.as_slice(), want, "{label}");
+    Ok(())
 }
 
 #[test]
@@ -383,15 +409,21 @@ fn torrents_stand_in_the_order_in_which_they_came(rt: HostRuntime) -> Result<(),
         ("the second at its end", 1443, A, &[(B, 1441), (A, 1443)]),
     ];
     for (label, minute, hash, order) in steps {
-        ask(
-            &mut bucket,
-            minute,
-            call_of(hash, numbered(1), Asks::Leecher),
-            &WORDS,
-        );
-        assert_eq!(&rt; touches(rt.alloc(), &bucket)?.as_slice(), order, "{label}");
+        check_touches(&rt, &mut bucket, minute, hash, label, order)?;
     }
     Ok(())
+}
+
+/// A bucket with a torrent of one peer, and one of two, the second of which came 44 minutes later.
+fn with_two_torrents(alloc: Global) -> Result<Bucket, AllocError>
+    ensures { IfOk result (λ bucket. bucket.settings.sync ≡ false) }
+{
+    let mut bucket = Bucket::new(alloc, USUAL, false)?;
+    for (minute, hash, n) in [(0, B, 1), (0, A, 1), (44, A, 2)] {
+        let call = call_of(hash, numbered(n), Asks::Leecher);
+        ask(&mut bucket, minute, call, &WORDS);
+    }
+    Ok(bucket)
 }
 
 /// The rows that a scan tells, by the first bytes of their hashes, with their leechers.
@@ -414,15 +446,7 @@ fn scanned(
 
 #[test]
 fn a_scan_tells_known_torrents_in_ascending_order(rt: HostRuntime) -> Result<(), Fail> {
-    let mut bucket = Bucket::new(rt.alloc(), USUAL, false)?;
-    for (minute, hash, n) in [(0, B, 1), (0, A, 1), (44, A, 2)] {
-        ask(
-            &mut bucket,
-            minute,
-            call_of(hash, numbered(n), Asks::Leecher),
-            &WORDS,
-        );
-    }
+    let mut bucket = with_two_torrents(rt.alloc())?;
     let steps: [(&str, u32, &[(u8, u32)]); 6] = [
         ("all live", 44, &[(0x11, 2), (0xff, 1)]),
         ("one is left", 45, &[(0x11, 1), (0xff, 0)]),
@@ -431,67 +455,69 @@ fn a_scan_tells_known_torrents_in_ascending_order(rt: HostRuntime) -> Result<(),
         ("one forgotten", 1440, &[(0x11, 0)]),
         ("the other as well", 1484, &[]),
     ];
-    for (label, minute, rows) in steps {
-        assert_eq!(&rt;
-            scanned(&rt, &mut bucket, minute)?.as_slice(),
-            rows,
-            "{label}"
-        );
+    for (label, minute, want) in steps {
+        let rows = scanned(&rt, &mut bucket, minute)?;
+        assert_eq!(&rt; rows.as_slice(), want, "{label}");
     }
     Ok(())
 }
 
+/// How many peers and torrents are stored.
+fn stored(bucket: &Bucket) -> (u64, u32) {
+    (bucket.held(), bucket.ring().len())
+}
+
+/// Cleans a bucket, and compares what is stored before and after with what is wanted.
+fn check_cleaning(
+    rt: &impl Abort,
+    bucket: &mut Bucket,
+    minute: u32,
+    label: &str,
+    before: (u64, u32),
+    after: (u64, u32),
+)
+    requires { bucket.old.settings.sync ≡ false }
+    ensures { bucket.new.settings ≡ bucket.old.settings }
+{
+    assert_eq!(rt; stored(bucket), before, "{label}: before");
+    let held = match ask(bucket, minute, Call::Clean, &WORDS) {
+        Answer::Cleaned { held } => held,
+        _ => u64::MAX,
+    };
+    assert_eq!(rt; held, after.0, "{label}: told");
+    assert_eq!(rt; stored(bucket), after, "{label}: after");
+}
+
 #[test]
 fn a_cleaning_drops_what_is_stale(rt: HostRuntime) -> Result<(), Fail> {
-    let mut bucket = Bucket::new(rt.alloc(), USUAL, false)?;
-    for (minute, hash, n) in [(0, B, 1), (0, A, 1), (44, A, 2)] {
-        ask(
-            &mut bucket,
-            minute,
-            call_of(hash, numbered(n), Asks::Leecher),
-            &WORDS,
-        );
-    }
-    for (label, minute, stored, live, torrents) in [
-        ("all live", 44, 3, 3, 2),
-        ("one is left", 45, 3, 1, 2),
-        ("none is left", 89, 1, 0, 2),
-        ("one forgotten", 1440, 0, 0, 1),
-        ("the other as well", 1484, 0, 0, 0),
+    let mut bucket = with_two_torrents(rt.alloc())?;
+    for (label, minute, before, after) in [
+        ("all live", 44, (3, 2), (3, 2)),
+        ("one is left", 45, (3, 2), (1, 2)),
+        ("none is left", 89, (1, 2), (0, 2)),
+        ("one forgotten", 1440, (0, 2), (0, 1)),
+        ("the other as well", 1484, (0, 1), (0, 0)),
     ] {
-        assert_eq!(&rt; bucket.held(), stored, "{label}: before");
-        match ask(&mut bucket, minute, Call::Clean, &WORDS) {
-            Answer::Cleaned { held } => assert_eq!(&rt; held, live, "{label}"),
-            _ => assert!(&rt; false, "{label}: no cleaning"),
-        }
-        assert_eq!(&rt;
-            (bucket.held(), bucket.ring().len()),
-            (live, torrents),
-            "{label}: after"
-        );
+        check_cleaning(&rt, &mut bucket, minute, label, before, after);
     }
     Ok(())
 }
 
 #[test]
 fn a_scrape_by_itself_is_that_of_a_call(rt: HostRuntime) -> Result<(), Fail> {
+    use Outcome::Stats;
     let mut bucket = Bucket::new(rt.alloc(), USUAL, false)?;
-    ask(
-        &mut bucket,
-        0,
-        call_of(A, numbered(1), Asks::Finisher),
-        &WORDS,
-    );
+    let call = call_of(A, numbered(1), Asks::Finisher);
+    ask(&mut bucket, 0, call, &WORDS);
     for (label, minute, hash, want) in [
-        ("live", 44, A, (1, 1, 0, true)),
-        ("stale", 45, A, (0, 1, 0, true)),
-        ("time stays", 0, A, (0, 1, 0, true)),
-        ("unknown", 45, B, (0, 0, 0, false)),
-        ("forgotten", 1440, A, (0, 0, 0, false)),
+        ("live", 44, A, Stats(1, 1, 0, true)),
+        ("stale", 45, A, Stats(0, 1, 0, true)),
+        ("time stays", 0, A, Stats(0, 1, 0, true)),
+        ("unknown", 45, B, Stats(0, 0, 0, false)),
+        ("forgotten", 1440, A, Stats(0, 0, 0, false)),
     ] {
         let (counts, known) = bucket.scrape(0, Minute(minute), &hash);
-        let told = (counts.complete, counts.downloaded, counts.incomplete, known);
-        assert_eq!(&rt; told, want, "{label}");
+        expect(&rt, label, &Answer::Stats { counts, known }, want);
     }
     Ok(())
 }

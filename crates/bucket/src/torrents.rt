@@ -114,8 +114,8 @@ impl Torrents {
         self.list[place as usize].counts()
     }
 
-    /// Adds to an empty list the endpoints that the words choose among the peers of the torrent at a
-    /// place that are of the asker's family and not the asker.
+    /// Adds to an empty list the endpoints that the words choose among the peers of the torrent at
+    /// a place that are of the asker's family and not the asker.
     pub fn choose(
         &self,
         place: u32,
@@ -156,6 +156,9 @@ impl Torrents {
         ensures { Forgets now.0 self.old self.new }
     {
         let start = self.ring.time();
+        if start == now.0 {
+            return;
+        }
         for minute in 0..(now.0 - start).min(TORRENT_MINUTES) {
             self.pass_to(start + minute + 1, steps);
         }
@@ -178,8 +181,9 @@ impl Torrents {
         self.ring.advance(minute, steps);
     }
 
-    /// Gives memory back where a third of the room or more is spare: at least a sixth of the torrents
-    /// that the room was made for have left it, so it doesn't come and go with a few torrents.
+    /// Gives memory back where a third of the room or more is spare: at least a sixth of the
+    /// torrents that the room was made for have left it, so it doesn't come and go with a few
+    /// torrents.
     fn release(&mut self)
         ensures { self.new ≡ self.old }
     {
@@ -227,8 +231,8 @@ impl Torrents {
         Ok(())
     }
 
-    /// Lets an endpoint take part in a torrent that isn't there yet, and gives its place. Where it is
-    /// refused nothing changes.
+    /// Lets an endpoint take part in a torrent that isn't there yet, and gives its place. Where it
+    /// is refused nothing changes.
     pub fn add<L: Ledger>(
         &mut self,
         joining: &Joining,

@@ -1,11 +1,10 @@
 //! Random calls on a bucket and on a plain list of torrents.
 
 ghost use Rattle.std.specs.Prelude.{◌≡◌, ◌<◌, true, false};
-ghost use Rattle.tracker_model.specs.Calls.{IsPeer, IsWellFormed};
-ghost use Rattle.bucket.specs.Public.{is_own};
+ghost use Rattle.tracker_model.specs.Calls.{IsPeer};
 
 use super::*;
-use ot_base::{Counts, Held};
+use ot_base::{Counts, Held, Row};
 
 /// Numbers that look random: a linear congruential generator.
 #[derive(Drop)]
@@ -217,6 +216,23 @@ fn chosen(
     Ok(chosen)
 }
 
+/// Each peer that is told is one of the others, and none is told twice.
+fn check_others(
+    rt: &impl Abort,
+    alloc: Global,
+    others: &[Endpoint],
+    told: &[Endpoint],
+) -> Result<(), AllocError> {
+    let mut sorted = told.to_vec(alloc)?;
+    sorted.sort()?;
+    sorted.dedup();
+    assert_eq!(rt; sorted.len(), told.len(), "told once");
+    for one in told {
+        assert!(rt; others.contains(one), "{one:?} is another live peer");
+    }
+    Ok(())
+}
+
 /// Compares the peers that an asker is told with those that the list has.
 fn compare_told(
     rt: &(impl Abort + AllocGlobal),
@@ -228,21 +244,9 @@ fn compare_told(
     told: &[Endpoint],
 ) -> Result<(), AllocError> {
     let (others, is_certain) = plains.others(rt.alloc(), hash, who)?;
-    let mut sorted = told.to_vec(rt.alloc())?;
-    sorted.sort()?;
-    sorted.dedup();
-    assert_eq!(rt; sorted.len(), told.len(), "told once");
-    assert_eq!(rt;
-        told.len(),
-        others.len().min(want as usize),
-        "as many as wanted"
-    );
-    for one in told {
-        assert!(rt;
-            others.as_slice().contains(one),
-            "{one:?} is another live peer"
-        );
-    }
+    let len = others.len().min(want as usize);
+    assert_eq!(rt; told.len(), len, "as many as wanted");
+    check_others(rt, rt.alloc(), others.as_slice(), told)?;
     if is_certain {
         let chosen = chosen(rt, rt.alloc(), others, want, words)?;
         assert_eq!(rt; told, chosen.as_slice(), "the words choose");
@@ -299,41 +303,40 @@ fn announce_both(
     Ok(())
 }
 
-/// A scan or a cleaning on both.
-fn survey_both(
-    rt: &(impl Abort + AllocGlobal),
+/// A cleaning of both.
+fn clean_both(rt: &impl Abort, bucket: &mut Bucket, plains: &Plains, minute: u32)
+    requires alone { bucket.old.settings.sync ≡ false }
+    ensures { bucket.new.settings ≡ bucket.old.settings }
+{
+    let held = bucket.clean(0, Minute(minute));
+    let left = plains.held();
+    assert_eq!(rt; (held, bucket.held()), (left, left), "cleaned");
+}
+
+/// Compares the rows of a scan with the torrents of the list.
+fn compare_rows(rt: &impl Abort, plains: &Plains, rows: &[Row]) {
+    assert_eq!(rt; rows.len(), plains.torrents.len(), "rows");
+    assert!(rt; rows.is_sorted(), "ascending");
+    for row in rows {
+        assert!(rt; plains.place(&row.hash).is_some(), "known");
+        let counts = told_counts(&row.counts);
+        assert_eq!(rt; counts, plains.counts(&row.hash), "in a row");
+    }
+}
+
+/// A scan of both.
+fn scan_both(
+    rt: &impl Abort,
     bucket: &mut Bucket,
     plains: &Plains,
     minute: u32,
-    call: Call,
-)
-    requires formed { IsWellFormed call }
+) -> Result<(), AllocError>
     requires alone { bucket.old.settings.sync ≡ false }
-    requires answerable { is_own call ≡ true }
     ensures { bucket.new.settings ≡ bucket.old.settings }
 {
-    match ask(bucket, minute, call, &WORDS) {
-        Answer::Cleaned { held } => {
-            assert_eq!(rt;
-                (held, bucket.held()),
-                (plains.held(), plains.held()),
-                "cleaned"
-            );
-        }
-        Answer::Rows { rows } => {
-            assert_eq!(rt; rows.len(), plains.torrents.len(), "rows");
-            assert!(rt; rows.as_slice().is_sorted(), "ascending");
-            for row in rows.as_slice() {
-                assert!(rt; plains.place(&row.hash).is_some(), "known");
-                assert_eq!(rt;
-                    told_counts(&row.counts),
-                    plains.counts(&row.hash),
-                    "in a row"
-                );
-            }
-        }
-        _ => assert!(rt; false, "another answer"),
-    }
+    let rows = bucket.scan(0, Minute(minute))?;
+    compare_rows(rt, plains, rows.as_slice());
+    Ok(())
 }
 
 fn call_both(
@@ -362,8 +365,8 @@ fn call_both(
             assert_eq!(rt; told_counts(&counts), plains.counts(&hash), "scraped");
             assert_eq!(rt; known, plains.place(&hash).is_some(), "known");
         }
-        4 => survey_both(rt, bucket, plains, minute, Call::Scan),
-        5 => survey_both(rt, bucket, plains, minute, Call::Clean),
+        4 => scan_both(rt, bucket, plains, minute)?,
+        5 => clean_both(rt, bucket, plains, minute),
         _ => announce_both(rt, bucket, plains, hash, who, minute, dice)?,
     }
     Ok(())

@@ -77,55 +77,13 @@ returns-in-Announce-clause-order c =
 
 pub returns-in-Stop-clause-stands : goal.returns-in-Stop-clause-stands
 returns-in-Stop-clause-stands c =
-    let i = c.self.inside in
-    let now = c.at_least-now.result.0 in
+    let i = c.self-in-Stop.inside in
+    let now = c.at_least-now-in-Stop.result.0 in
     let new = c.stop.new.torrents in
     let hash = c.in-Stop.hash in
     let who = c.in-Stop.who in
     let formed = formed_as c.args.call (Stop hash who) c.in-Stop.is c.requires.formed in
     let P : List Endpoint → Type 0 = λ l. StandsOn c.args.caller c.args.minute c.args.call (Told c.stop.result l) c.args.self.now (bucket_of i.sync new) in
     subst P (sym c.new-in-Stop-2.ensures)
-    (stands_as c.args.caller c.args.minute now i.sync i.torrents c.args.self.now c.self.view_is c.args.call (Stop hash who) c.in-Stop.is c.requires.alone c.at_least-now.ensures (Told c.stop.result []) new
+    (stands_as c.args.caller c.args.minute now i.sync i.torrents c.args.self.now c.self-in-Stop.view_is c.args.call (Stop hash who) c.in-Stop.is c.requires.alone c.at_least-now-in-Stop.ensures (Told c.stop.result []) new
     (λ alone later. stop_stands now hash i.torrents new i.sync alone c.args.caller c.args.minute later who c.stop.result c.stop.ensures formed))
-
-pub returns-in-Scrape-clause-stands : goal.returns-in-Scrape-clause-stands
-returns-in-Scrape-clause-stands c =
-    let i = c.self.inside in
-    let now = c.at_least-now.result.0 in
-    let new = c.scrape-known.new.torrents in
-    let counts = c.scrape-known.result.0 in
-    let known = c.scrape-known.result.1 in
-    stands_as c.args.caller c.args.minute now i.sync i.torrents c.args.self.now c.self.view_is c.args.call (Scrape c.in-Scrape.hash) c.in-Scrape.is c.requires.alone c.at_least-now.ensures (Stats counts known) new
-    (λ alone later. scrape_stands now c.in-Scrape.hash i.torrents new i.sync alone c.args.caller c.args.minute later counts known c.scrape-known.ensures)
-
-pub returns-in-Err-rows-clause-stands : goal.returns-in-Err-rows-clause-stands
-returns-in-Err-rows-clause-stands c =
-    let i = c.self.inside in
-    let now = c.at_least-now.result.0 in
-    let new = c.clean.new.torrents in
-    stands_as c.args.caller c.args.minute now i.sync i.torrents c.args.self.now c.self.view_is c.args.call Scan c.in-Scan.is c.requires.alone c.at_least-now.ensures NoMemory new
-    (λ alone later. scan_wants_stands now i.torrents new c.clean.ensures i.sync alone c.args.caller c.args.minute later)
-
-pub returns-in-Scan-clause-stands : goal.returns-in-Scan-clause-stands
-returns-in-Scan-clause-stands c =
-    let i = c.self.inside in
-    let now = c.at_least-now.result.0 in
-    let new = c.clean.new.torrents in
-    let rows = c.in-Ok-rows.rows in
-    stands_as c.args.caller c.args.minute now i.sync i.torrents c.args.self.now c.self.view_is c.args.call Scan c.in-Scan.is c.requires.alone c.at_least-now.ensures (Rows rows) new
-    (λ alone later. scan_stands now i.torrents new c.clean.ensures i.sync alone c.args.caller c.args.minute later rows c.in-Ok-rows.ensures)
-
-pub returns-in-Clean-clause-stands : goal.returns-in-Clean-clause-stands
-returns-in-Clean-clause-stands c =
-    let i = c.self.inside in
-    let now = c.at_least-now.result.0 in
-    let new = c.clean-in-Clean.new.torrents in
-    stands_as c.args.caller c.args.minute now i.sync i.torrents c.args.self.now c.self.view_is c.args.call Clean c.in-Clean.is c.requires.alone c.at_least-now.ensures (Cleaned c.held.result) new
-    (λ alone later. clean_stands now i.torrents new c.clean-in-Clean.ensures i.sync alone c.args.caller c.args.minute later c.held.result c.held.ensures)
-
-pub returns-in-Clean-clause-cleaned : goal.returns-in-Clean-clause-cleaned
-returns-in-Clean-clause-cleaned c =
-    let i = c.self.inside in
-    let new = c.clean-in-Clean.new.torrents in
-    let P : Call → Type 0 = λ k. IsCleaned k (bucket_of i.sync new) in
-    subst P (sym c.in-Clean.is) (cleaned_fresh c.at_least-now.result.0 i.torrents new c.clean-in-Clean.ensures i.sync)

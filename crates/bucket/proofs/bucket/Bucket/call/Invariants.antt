@@ -6,9 +6,3 @@ ghosts-announce a = record { name = a.blank.name; parts = a.blank.parts }
 
 abbrev pub ghosts-stop : goal.ghosts-stop
 ghosts-stop a = record { name = a.blank.name; parts = a.blank.parts }
-
-abbrev pub ghosts-scrape : goal.ghosts-scrape
-ghosts-scrape a = record { name = a.blank.name; parts = a.blank.parts }
-
-abbrev pub ghosts-clean : goal.ghosts-clean
-ghosts-clean a = record { name = a.blank.name; parts = a.blank.parts }
