@@ -17,8 +17,8 @@ use Rattle.hex.proofs.HexLemmas.{IsOk-decode_sized}
 use Rattle.ot_base.specs.declared.hash.InfoHash.{InfoHash}
 use Rattle.access_list.specs.Access.{AreAccessLines, Listing, fault_of, hash_named, hash_of}
 use Rattle.access_list.specs.Access.{hashes_named, is_line, is_remark, most_hashes}
-use Rattle.access_list.specs.declared.fault.AccessFault.{AccessFault}
-use Rattle.access_list.specs.declared.fault.AccessFault.TheVariants.{Line, Many}
+use Rattle.ot_base.specs.declared.access.AccessFault.{AccessFault}
+use Rattle.ot_base.specs.declared.access.AccessFault.TheVariants.{Line, Many}
 
 some_from_ok : (r : Result (List ℕ) FromHexError)
     → IsSome (option_map hash_of (result_ok r)) ↔ IsOk r

@@ -8,10 +8,10 @@ use Rattle.std.specs.Result.{result_ok}
 use Rattle.hex.specs.Hex.{decode_sized}
 use Rattle.ot_base.specs.Same.{same_hash}
 use Rattle.ot_base.specs.declared.hash.InfoHash.{InfoHash}
-use Rattle.access_list.specs.declared.fault.AccessFault.{AccessFault}
-use Rattle.access_list.specs.declared.fault.AccessFault.TheVariants.{Line, Many}
-use Rattle.access_list.specs.declared.mode.Mode.{Mode}
-use Rattle.access_list.specs.declared.mode.Mode.TheVariants.{Deny, Allow}
+use Rattle.ot_base.specs.declared.access.AccessFault.{AccessFault}
+use Rattle.ot_base.specs.declared.access.AccessFault.TheVariants.{Line, Many}
+use Rattle.ot_base.specs.declared.access.Mode.{Mode}
+use Rattle.ot_base.specs.declared.access.Mode.TheVariants.{Deny, Allow}
 
 -- how many hashes a list may name, one that stands twice counted twice
 abbrev pub most_hashes : ℕ
@@ -63,3 +63,8 @@ admits_named Allow named = named
 -- A list that denies admits the torrents that it doesn't name, one that allows those that it names.
 abbrev pub is_admitted : Listing → InfoHash → Bool
 is_admitted list hash = admits_named list.mode (is_named list.hashes hash)
+
+-- without a list every torrent is admitted
+abbrev pub admits_hash : Option Listing → InfoHash → Bool
+admits_hash None hash = true
+admits_hash (Some list) hash = is_admitted list hash

@@ -1,8 +1,22 @@
 //! A whole access list.
 
+ghost use Rattle.std.specs.Prelude.{◌≡◌, option_copied};
+ghost use Rattle.access_list.specs.Access.{admits_hash};
+
 use crate::Mode;
 use ot_base::InfoHash;
 use std::marker::Model;
+
+/// Whether a tracker takes part in a torrent, by its list if it has one: without a list it takes part
+/// in all. It takes no memory.
+pub fn admits_hash(access: Option<&AccessList>, hash: &InfoHash) -> bool
+    ensures { result ≡ admits_hash (option_copied access.entry) hash.now }
+{
+    match access {
+        Some(list) => list.admits(hash),
+        None => true,
+    }
+}
 
 /// Which torrents a tracker admits. Contracts see its mode and the hashes that it names, each once
 /// in ascending order.

@@ -2,15 +2,12 @@
 #![tactic(auto)]
 
 mod access;
-mod fault;
 pub mod laws;
 mod lines;
-mod mode;
 mod reader;
 #[cfg(test)]
 mod tests;
 
-pub use access::AccessList;
-pub use fault::AccessFault;
-pub use mode::Mode;
+pub use access::{AccessList, admits_hash};
+pub use ot_base::{AccessFault, Mode};
 pub use reader::ListReader;

@@ -34,7 +34,7 @@ impl ListReader {
     ghost use Rattle.std.specs.Option.{option_to_list};
     ghost use Rattle.ot_base.specs.declared.hash.InfoHash.{InfoHash};
     ghost use Rattle.access_list.specs.Access.{fault_of, hash_named, is_admitted};
-    ghost use Rattle.access_list.specs.declared.fault.AccessFault.TheVariants.{NoMemory};
+    ghost use Rattle.ot_base.specs.declared.access.AccessFault.TheVariants.{NoMemory};
 
     /// A list of which no line has been read. It takes no memory.
     pub fn new(alloc: Global, mode: Mode) -> Self

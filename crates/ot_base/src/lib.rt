@@ -1,6 +1,7 @@
 //! The types of the tracker: hashes, addresses, peers, counts, times, and lists of them.
 #![tactic(auto)]
 
+pub mod access;
 pub mod address;
 pub mod fault;
 pub mod hash;
@@ -14,6 +15,7 @@ pub mod sequence;
 #[cfg(test)]
 mod tests;
 
+pub use access::{AccessFault, Mode};
 pub use address::{Addr, Endpoint, Family};
 pub use fault::TraceFault;
 pub use hash::{InfoHash, Secret, bucket_of};
