@@ -7,13 +7,13 @@
 # bench/RESULTS.md has what was measured.
 set -euo pipefail
 cd "$(dirname "$0")/.."
-kinds=${*:-announces http torrent swarm stops scrape scrapes scrape_of_1000 scrapes_of_1000}
+kinds=${*:-announces http torrent swarm stops scrape scrapes scrape_of_1000 scrapes_of_1000 full_swarm few torrents}
 work=$(mktemp -d)
 trap 'rm -rf "$work"' EXIT
 ./opentracker replay </dev/null
 program=crates/opentracker/out/opentracker
 
-# How many records there are of a kind, how many runs are made, and how many peers are stored at the end.
+# How many records there are of a kind, how many runs are made, how many peers are stored at the end, and the settings.
 size() {
     case $1 in
         connects) echo 1000000 3 0 ;;
@@ -26,6 +26,9 @@ size() {
         scrapes) echo 50000 3 0 ;;
         scrape_of_1000) echo 100000 3 0 ;;
         scrapes_of_1000) echo 10000 1 0 ;;
+        full_swarm) echo 2000000 1 1000000 peers=1000000 ;;
+        few) echo 1000000 1 100000 bits=0 ;;
+        torrents) echo 1000000 1 100000 bits=0 torrents=1000000 ;;
         *) echo "bench/replay.sh: there is no kind $1" >&2 && return 1 ;;
     esac
 }
@@ -59,14 +62,14 @@ print(f"{seconds:.6f} {peak}")
 PY
 }
 
-# replay KIND RECORDS RUNS: sets `rate`, of the fastest run, and `peak`, of the last.
+# replay KIND RECORDS RUNS SETTING..: sets `rate`, of the fastest run, and `peak`, of the last.
 replay() {
     local trace=$work/trace lines run seconds one
     python3 bench/traces.py "$1" "$2" >"$trace"
     lines=$(for run in 1 2 3; do measure "$trace" wc -l; done | cut -d' ' -f1 | sort -n | head -n 1)
     rate=0
     for run in $(seq "$3"); do
-        read -r seconds peak < <(measure "$trace" "$program" replay)
+        read -r seconds peak < <(measure "$trace" "$program" replay "${@:4}")
         one=$(awk -v n="$(wc -l <"$trace")" -v s="$seconds" 'BEGIN { printf "%d", n / s }')
         rate=$((one > rate ? one : rate))
         awk -v kind="$1" -v n="$2" -v run="$run" -v rate="$one" -v s="$seconds" -v l="$lines" -v peak="$peak" 'BEGIN {
@@ -78,8 +81,9 @@ replay connects 100000 1
 replay connects 1000000 3
 base=$rate least=$peak
 for kind in $kinds; do
-    read -r records runs peers < <(size "$kind")
-    replay "$kind" "$records" "$runs"
+    read -r records runs peers settings < <(size "$kind")
+    # shellcheck disable=SC2086 -- settings are words
+    replay "$kind" "$records" "$runs" $settings
     awk -v kind="$kind" -v peers="$peers" -v rate="$rate" -v base="$base" -v peak="$peak" -v least="$least" 'BEGIN {
         printf "%s: %.4f of the connects a second", kind, rate / base
         if (peers) printf ", %d bytes a stored peer", (peak - least) * 1024 / peers

@@ -11,9 +11,12 @@ scrapes     the same of 74 torrents each
 scrape_of_1000, scrapes_of_1000
             the same two of 1,000 torrents
 http        the announces, over HTTP: connections that sent a head of some 300 bytes
+full_swarm  announces to one torrent by 1,000,000 endpoints
+torrents    announces over 100,000 torrents by as many endpoints
+few         announces over 100 torrents by 100,000 endpoints
 
-Connects come at ten a second, all else at a hundred a second. Before the scrapes each torrent is
-announced.
+Connects come at ten a second, announces of the last three kinds at a thousand a second, all else at
+a hundred a second. Before the scrapes each torrent is announced.
 """
 import hashlib
 import random
@@ -44,11 +47,11 @@ def record(seconds, address, port, datagram):
     return f"U {seconds} {dotted(address)} {port} {datagram.hex()}\n"
 
 
-def announce(i, seconds, who, torrent, left, event=NOTHING):
+def announce(i, seconds, who, torrent, left, event=NOTHING, want=50):
     address = address_of(who)
     datagram = connection_id(address, seconds // 60) + struct.pack(
         ">II20s20sQQQIIIiH",
-        1, i & 0xFFFFFFFF, info_hash(torrent), b"-xx0000-000000000000", 0, left, 0, event, 0, 0, 50, 6881,
+        1, i & 0xFFFFFFFF, info_hash(torrent), b"-xx0000-000000000000", 0, left, 0, event, 0, 0, want, 6881,
     )
     return record(seconds, address, 6881, datagram)
 
@@ -61,12 +64,12 @@ def connects(count, write):
         write(record(i // 10, address, port, struct.pack(">QII", 0x41727101980, 0, transaction)))
 
 
-def announces(count, write, torrents=1_000, endpoints=100_000):
+def announces(count, write, torrents=1_000, endpoints=100_000, a_second=100):
     """Endpoints announce in turn, each to one torrent; from the second round on every third is a seed."""
     for i in range(count):
         who, round_ = i % endpoints, i // endpoints
         left = 0 if round_ and who % 3 == 0 else 1 << 30
-        write(announce(i, i // 100, who, who % torrents, left))
+        write(announce(i, i // a_second, who, who % torrents, left))
 
 
 def torrent(count, write):
@@ -118,7 +121,22 @@ def http(count, write, torrents=1_000, endpoints=100_000):
         write(f"H {i // 100} {dotted(address_of(who))} 6881 {head.encode().hex()}\n")
 
 
-KINDS = [connects, announces, torrent, swarm, stops, scrape, scrapes, scrape_of_1000, scrapes_of_1000, http]
+def full_swarm(count, write):
+    announces(count, write, torrents=1, endpoints=1_000_000, a_second=1_000)
+
+
+def torrents(count, write):
+    announces(count, write, torrents=100_000, a_second=1_000)
+
+
+def few(count, write):
+    announces(count, write, torrents=100, a_second=1_000)
+
+
+KINDS = [
+    connects, announces, torrent, swarm, stops, scrape, scrapes, scrape_of_1000, scrapes_of_1000, http, full_swarm, torrents,
+    few,
+]
 
 
 def main():
@@ -126,4 +144,5 @@ def main():
     {kind.__name__: kind for kind in KINDS}[kind](count, sys.stdout.write)
 
 
-main()
+if __name__ == "__main__":
+    main()

@@ -1,18 +1,63 @@
 #!/usr/bin/env python3
-"""What a replay of a trace must write: expected.py < TRACE > REPLIES
+"""What a replay of a trace must write: expected.py [SETTING ..] < TRACE > REPLIES
 
-A tracker on its own, with nothing in common with the one in crates/ but the formats and rules of docs/. It knows no
-limits: a trace must not reach them. It answers datagrams (`U`) and connections (`H`) of IPv4, and rounds of the
-cleaner (`C`).
+A tracker on its own, with nothing in common with the one in crates/ but the formats and rules of docs/. It takes the
+settings of `opentracker replay`. It answers datagrams (`U`) and connections (`H`) of IPv4, and rounds of the cleaner
+(`C`), and knows no line that isn't one of these or, before them, of an access list.
 """
 import hashlib
 import re
 import struct
 import sys
 
-SECRET = bytes(20)
 PEER_MINUTES, TORRENT_MINUTES = 45, 1440
 DATAGRAM_BYTES, CONNECTION_BYTES = 2048, 8192
+SETTINGS = {
+    "bits": "10", "peers": "100000", "torrents": "65536", "full": "off", "secret": "00" * 20, "seed": "0", "access": None,
+}
+
+
+class Refused(Exception):
+    """A request that is answered with a reason."""
+
+
+class Generator:
+    """PCG XSH RR 64/32 (O'Neill 2014), seeded by a number as Rust's `rand_core` does: by the words of another one."""
+
+    MULTIPLIER = 6364136223846793005
+
+    def __init__(self, seed):
+        self.state, self.increment = seed, 11634580027462260723
+        words = [self.moved() for _ in range(4)]
+        state, self.increment = words[0] | words[1] << 32, words[2] | words[3] << 32 | 1
+        self.state = state + self.increment
+        self.step()
+
+    def step(self):
+        self.state = (self.state * self.MULTIPLIER + self.increment) % 2**64
+
+    def output(self):
+        word = ((self.state >> 18 ^ self.state) >> 27) % 2**32
+        turn = self.state >> 59
+        return (word >> turn | word << (32 - turn)) % 2**32
+
+    def moved(self):
+        self.step()
+        return self.output()
+
+    def word(self):
+        word = self.output()
+        self.step()
+        return word
+
+    def words(self):
+        return [self.word() for _ in range(200)]
+
+
+def pick(words, elements, count):
+    """So many of the elements: each word's remainder by how many are left says which of these is next."""
+    left = list(elements)
+    return [left.pop(word % len(left)) for word in words[: min(count, len(elements))]]
 
 
 class Torrent:
@@ -50,9 +95,11 @@ class Torrent:
         return complete, self.downloaded, len(self.peers) - complete
 
 
-class Tracker:
-    def __init__(self):
-        self.time, self.torrents = 0, {}
+class Bucket:
+    """The torrents whose hashes begin with the same bits."""
+
+    def __init__(self, peers, torrents):
+        self.time, self.torrents, self.limits = 0, {}, (peers, torrents)
 
     def advance(self, minute):
         """Time passes: torrents that aren't known any more are gone."""
@@ -65,15 +112,20 @@ class Tracker:
         torrent.age(self.time)
         return torrent
 
-    def announce(self, info_hash, endpoint, seed, completed, want):
-        torrent = self.torrents[info_hash] = self.torrent(info_hash)
+    def announce(self, info_hash, endpoint, seed, completed, want, words):
+        known, torrent = info_hash in self.torrents, self.torrent(info_hash)
         place = torrent.place(endpoint)
+        if known and place is None and len(torrent.peers) == self.limits[0]:
+            raise Refused(b"swarm is full")
+        if not known and len(self.torrents) == self.limits[1]:
+            raise Refused(b"tracker is full")
+        self.torrents[info_hash] = torrent
         if completed and not (place is not None and torrent.peers[place][1]):
             torrent.downloaded += 1
         torrent.put(endpoint, seed, self.time)
         torrent.touch = self.time
         others = [peer[0] for peer in torrent.peers if peer[0] != endpoint]
-        return torrent.counts(), others[:want]
+        return torrent.counts(), pick(words, others, want)
 
     def stop(self, info_hash, endpoint):
         torrent = self.torrent(info_hash)
@@ -88,38 +140,92 @@ class Tracker:
         return sum(len(self.torrent(info_hash).peers) for info_hash in self.torrents)
 
 
+class Tracker:
+    """All buckets, and what the settings say."""
+
+    def __init__(self, settings):
+        self.bits = int(settings["bits"])
+        self.buckets = [Bucket(int(settings["peers"]), int(settings["torrents"])) for _ in range(2**self.bits)]
+        self.full = settings["full"] == "on"
+        self.secret = bytes.fromhex(settings["secret"])
+        self.generator = Generator(int(settings["seed"]))
+        self.access, self.listed = settings["access"], set()
+
+    def admits(self, info_hash):
+        return self.access is None or (info_hash in self.listed) == (self.access == "allow")
+
+    def bucket(self, minute, info_hash):
+        """The bucket of a hash, for which it is this minute or a later one."""
+        bucket = self.buckets[int.from_bytes(info_hash[:2], "big") >> (16 - self.bits)]
+        bucket.advance(minute)
+        return bucket
+
+    def announce(self, minute, info_hash, *peer):
+        return self.bucket(minute, info_hash).announce(info_hash, *peer, self.generator.words())
+
+    def stop(self, minute, info_hash, endpoint):
+        return self.bucket(minute, info_hash).stop(info_hash, endpoint)
+
+    def scrape(self, minute, info_hash):
+        """The counts of a torrent, and whether it is known."""
+        bucket = self.bucket(minute, info_hash)
+        return bucket.scrape(info_hash), info_hash in bucket.torrents
+
+    def all_buckets(self, minute):
+        for bucket in self.buckets:
+            bucket.advance(minute)
+            yield bucket
+
+    def clean(self, minute):
+        return sum(bucket.clean() for bucket in self.all_buckets(minute))
+
+    def scan(self, minute):
+        """All known torrents with their counts."""
+        return {h: bucket.scrape(h) for bucket in self.all_buckets(minute) for h in sorted(bucket.torrents)}
+
+    def connection_id(self, address, minute):
+        text = self.secret + bytes(10) + b"\xff\xff" + address + struct.pack(">Q", minute)
+        return hashlib.sha1(text).digest()[:8]
+
+    def read_list(self, lines):
+        """Takes the lines of the access list, where there is one."""
+        if self.access is not None:
+            for line in iter(lambda: next(lines).rstrip("\n"), "end"):
+                if line and not line.startswith("#"):
+                    self.listed.add(bytes.fromhex(line))
+
+
 def compact(peers):
     """Six bytes for each peer."""
     return b"".join(address + struct.pack(">H", port) for address, port in peers)
-
-
-def connection_id(address, minute):
-    text = SECRET + bytes(10) + b"\xff\xff" + address + struct.pack(">Q", minute)
-    return hashlib.sha1(text).digest()[:8]
 
 
 def error(transaction, text):
     return struct.pack(">II", 3, transaction) + text
 
 
-def announce_reply(tracker, transaction, address, datagram):
+def announce_reply(tracker, minute, transaction, address, datagram):
     info_hash = datagram[16:36]
     left, = struct.unpack(">Q", datagram[64:72])
     event, = struct.unpack(">I", datagram[80:84])
     want, port = struct.unpack(">iH", datagram[92:98])
     endpoint, completed = (address, port), event == 1
+    if port == 0:
+        raise Refused(b"bad port")
+    if not tracker.admits(info_hash):
+        raise Refused(b"not authorized")
     if event == 3:
-        told = tracker.stop(info_hash, endpoint)
+        told = tracker.stop(minute, info_hash, endpoint)
     else:
         want = 50 if want < 0 else min(want, 200)
-        told = tracker.announce(info_hash, endpoint, left == 0 or completed, completed, want)
+        told = tracker.announce(minute, info_hash, endpoint, left == 0 or completed, completed, want)
     (seeders, _, leechers), peers = told
     return struct.pack(">IIIII", 1, transaction, 1800, leechers, seeders) + compact(peers)
 
 
-def scrape_reply(tracker, transaction, _, datagram):
+def scrape_reply(tracker, minute, transaction, _, datagram):
     hashes = [datagram[i : i + 20] for i in range(16, len(datagram) - 19, 20)][:74]
-    groups = (struct.pack(">III", *tracker.scrape(info_hash)) for info_hash in hashes)
+    groups = (struct.pack(">III", *tracker.scrape(minute, info_hash)[0]) for info_hash in hashes)
     return struct.pack(">II", 2, transaction) + b"".join(groups)
 
 
@@ -135,17 +241,16 @@ def datagram_output(tracker, minute, address, datagram):
     if action == 2 and len(datagram) < 36:
         return "S scrape"
     if action == 0:
-        reply = struct.pack(">II", 0, transaction) + connection_id(address, minute)
+        reply = struct.pack(">II", 0, transaction) + tracker.connection_id(address, minute)
     elif action > 2:
         reply = error(transaction, b"unknown action")
-    elif connection not in [connection_id(address, m) for m in (minute, minute - 1, minute - 2) if m >= 0]:
+    elif connection not in [tracker.connection_id(address, m) for m in (minute, minute - 1, minute - 2) if m >= 0]:
         reply = error(transaction, b"bad connection id")
-    elif action == 1 and datagram[96:98] == bytes(2):
-        reply = error(transaction, b"bad port")
     else:
-        # What was refused above made no call, and time moves by calls alone.
-        tracker.advance(minute)
-        reply = (announce_reply if action == 1 else scrape_reply)(tracker, transaction, address, datagram)
+        try:
+            reply = (announce_reply if action == 1 else scrape_reply)(tracker, minute, transaction, address, datagram)
+        except Refused as why:
+            reply = error(transaction, why.args[0])
     return "R " + reply.hex()
 
 
@@ -210,10 +315,6 @@ class Query:
         return number if number < 2**64 else None
 
 
-class Refused(Exception):
-    """A request that is answered with a reason."""
-
-
 def bencode(value):
     """BEP 3."""
     if isinstance(value, int):
@@ -237,65 +338,69 @@ def announce_body(tracker, minute, address, query):
         raise Refused(b"missing port")
     if port is None or not 1 <= port <= 65535:
         raise Refused(b"bad port")
+    if not tracker.admits(info_hash):
+        raise Refused(b"not authorized")
     endpoint, completed, want = (address, port), event == b"completed", query.number(b"numwant")
-    tracker.advance(minute)
     if event == b"stopped":
-        counts, peers = tracker.stop(info_hash, endpoint)
+        counts, peers = tracker.stop(minute, info_hash, endpoint)
     else:
         seed, want = query.number(b"left") == 0 or completed, 50 if want is None else min(want, 200)
-        counts, peers = tracker.announce(info_hash, endpoint, seed, completed, want)
+        counts, peers = tracker.announce(minute, info_hash, endpoint, seed, completed, want)
     more = {b"interval": 1800, b"min interval": 900, b"peers": compact(peers)}
     return bencode(counts_dictionary(counts) | more)
+
+
+def files_body(counts_of_hashes):
+    return bencode({b"files": {info_hash: counts_dictionary(counts) for info_hash, counts in counts_of_hashes.items()}})
 
 
 def scrape_body(tracker, minute, hashes):
     if any(len(info_hash) != 20 for info_hash in hashes):
         raise Refused(b"bad info_hash")
-    tracker.advance(minute)
-    known = [info_hash for info_hash in hashes if info_hash in tracker.torrents]
-    return bencode({b"files": {info_hash: counts_dictionary(tracker.scrape(info_hash)) for info_hash in known}})
+    scraped = {info_hash: tracker.scrape(minute, info_hash) for info_hash in hashes}
+    return files_body({info_hash: counts for info_hash, (counts, known) in scraped.items() if known})
 
 
 def answer(tracker, minute, address, query):
-    """The code and the body for a request."""
+    """The reply to a request. One that tells all torrents has no length."""
     hashes = query.all(b"info_hash")
     try:
         if query.path == b"/announce":
-            return 200, announce_body(tracker, minute, address, query)
+            return http_reply(200, announce_body(tracker, minute, address, query))
         if query.path == b"/scrape" and hashes:
-            return 200, scrape_body(tracker, minute, hashes)
+            return http_reply(200, scrape_body(tracker, minute, hashes))
+        if query.path == b"/scrape" and tracker.full:
+            return http_reply(200, files_body(tracker.scan(minute)), whole=False)
     except Refused as why:
-        return 200, bencode({b"failure reason": why.args[0]})
-    return 404, b""
+        return http_reply(200, bencode({b"failure reason": why.args[0]}))
+    return http_reply(404)
 
 
-def http_reply(code, body):
+def http_reply(code, body=b"", whole=True):
     reasons = {200: "OK", 400: "Bad Request", 404: "Not Found", 431: "Request Header Fields Too Large"}
-    head = [
-        f"HTTP/1.1 {code} {reasons[code]}",
-        "Content-Type: text/plain",
-        f"Content-Length: {len(body)}",
-        "Connection: close",
-    ]
+    length = [f"Content-Length: {len(body)}"] if whole else []
+    head = [f"HTTP/1.1 {code} {reasons[code]}", "Content-Type: text/plain", *length, "Connection: close"]
     return "".join(line + "\r\n" for line in head + [""]).encode() + body
 
 
 def connection_output(tracker, minute, address, sent):
     """The output line of a connection: what is written on it in hex digits, or that it ended before a head."""
-    head = Head.find(sent)
-    code, body = Head.refusal(sent), b""
+    head, code = Head.find(sent), Head.refusal(sent)
     if head is not None:
         method, target = head
-        code, body = answer(tracker, minute, address, Query(target)) if method == b"GET" else (400, b"")
-    return "S cut" if code is None else "R " + http_reply(code, body).hex()
+        reply = answer(tracker, minute, address, Query(target)) if method == b"GET" else http_reply(400)
+    elif code is None:
+        return "S cut"
+    else:
+        reply = http_reply(code)
+    return "R " + reply.hex()
 
 
 def output(tracker, kind, seconds, address=None, _=None, digits=None):
     """The output line of a record."""
     minute = min(int(seconds) // 60, 2**32 - 1)
     if kind == "C":
-        tracker.advance(minute)
-        return f"C {tracker.clean()}"
+        return f"C {tracker.clean(minute)}"
     address, received = bytes(int(number) for number in address.split(".")), bytes.fromhex(digits)
     if kind == "U":
         return datagram_output(tracker, minute, address, received[:DATAGRAM_BYTES])
@@ -304,7 +409,8 @@ def output(tracker, kind, seconds, address=None, _=None, digits=None):
 
 
 def main():
-    tracker = Tracker()
+    tracker = Tracker(SETTINGS | dict(word.split("=") for word in sys.argv[1:]))
+    tracker.read_list(sys.stdin)
     for line in sys.stdin:
         print(output(tracker, *line.rstrip("\n").split(" ")))
 

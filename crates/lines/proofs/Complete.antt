@@ -1,4 +1,5 @@
--- A run over lines of which none is refused or too long ends done, but for want of memory and the faults of the outside.
+-- A run over lines of which none is too long, or refused where it stands, ends done, but for want of
+-- memory and the faults of the outside.
 use Rattle.std.proofs.Common.{◌≡◌, ℕ, ◌+◌, ◌<◌, ◌≤◌, Bool, true, false, ◌||◌, List, [], ◌∷◌, ◌++◌, length, take, refl, sym, ◌∙◌, ap, subst, inl, inr, arith, append_assoc, append-nil, length-append}
 use Rattle.std.specs.Prelude.{◌==◌, ◌⊎◌, Option, Some, None}
 use Rattle.std.specs.List.{AllByRecursion}
@@ -23,7 +24,8 @@ module _ {X : Type 0} (P : X → Type 0) where
   all-at : (xs before after : List X) (x : X) → xs ≡ before ++ x ∷ after → AllByRecursion P xs → P x
   all-at xs before after x cut all = let Holds : List X → Type 0 = λ ys. AllByRecursion P ys in (all-back before (x ∷ after) (subst Holds cut all)).0
 
--- all lines of bytes are the whole lines of a front of them, and all lines of what is unfinished then with what follows
+-- all lines of bytes are the whole lines of a front of them, and all lines of what is unfinished then
+-- with what follows
 all_lines-split : (read rest : List ℕ) → all_lines (read ++ rest) ≡ whole_lines read ++ all_lines (unfinished read ++ rest)
 all_lines-split read rest =
     ap (λ whole. whole ++ last_line (unfinished (read ++ rest))) (whole_lines-append read rest)
@@ -70,14 +72,6 @@ first_begins x front (y ∷ rest) open_ =
       | false ↦ λ e. begins_on (x ∷ front) rest y (first_begins x (front ++ y ∷ []) rest (has_end-joined (x ∷ front) (y ∷ []) open_ (ap (λ b. b || false) e)))
     ] refl
 
--- no line is too long or refused
-abbrev pub IsGood : {S F : Type 0} → (S → List ℕ → F → Type 0) → List ℕ → Type 0
-IsGood {S} {F} refuses line = (length line ≤ line_limit) × ((s : S) (fault : F) → refuses s line fault → ⊥)
-
-module _ {S F : Type 0} (answers : S → List ℕ → List ℕ → S → Type 0) (refuses : S → List ℕ → F → Type 0) where
-  unrefused : (old : S) (lines : List (List ℕ)) (text : List ℕ) (n : ℕ) (fault : F) → AllByRecursion (IsGood refuses) lines → FirstRefused answers refuses old lines text n fault → ⊥
-  unrefused old lines text n fault good (line, at, reaches, short, refused) = (all-at (IsGood refuses) lines reaches.before reaches.after line reaches.cut good).1 at fault refused
-
 -- lines that are all short, of bytes that begin with these, leave none of these too long
 short_front : (left : List ℕ) (rest : List ℕ) → has_end left ≡ false → AllByRecursion (λ line. length line ≤ line_limit) (all_lines (left ++ rest)) → AllByRecursion (λ line. length line ≤ line_limit) (last_line left)
 short_front [] rest open_ short = tt
@@ -87,29 +81,46 @@ short_front (x ∷ left) rest open_ short =
     let whole : length ((x ∷ left) ++ begins.more) ≤ line_limit = (subst Short begins.first short).0 in
     (omega (arith, length-append (x ∷ left) begins.more), tt)
 
+-- a line has no more bytes than a line may have
+abbrev pub IsShortLine : List ℕ → Type 0
+IsShortLine line = length line ≤ line_limit
+
+-- `Good s lines` says that from the state s on none of these lines is refused, and their end isn't
 module _ (Rose : Type 0) {S F : Type 0} (answers : S → List ℕ → List ℕ → S → Type 0) (refuses : S → List ℕ → F → Type 0)
-    (may_end : S → Type 0) (refuses_end : S → F → Type 0) where
-  -- the lines of a front of the bytes are as good as all of them
-  good_front : (read rest : List ℕ) → AllByRecursion (IsGood refuses) (all_lines (read ++ rest)) → AllByRecursion (IsGood refuses) (whole_lines read)
-  good_front read rest good = let Good : List (List ℕ) → Type 0 = λ lines. AllByRecursion (IsGood refuses) lines in
-      all-front (IsGood refuses) (whole_lines read) (all_lines (unfinished read ++ rest)) (subst Good (all_lines-split read rest) good)
+    (may_end : S → Type 0) (refuses_end : S → F → Type 0)
+    (Good : S → List (List ℕ) → Type 0)
+    (goes_on : (s s' : S) (line text : List ℕ) (lines : List (List ℕ)) → Good s (line ∷ lines) → answers s line text s' → Good s' lines)
+    (unrefused : (s : S) (line : List ℕ) (lines : List (List ℕ)) (fault : F) → Good s (line ∷ lines) → refuses s line fault → ⊥)
+    (closes : (s : S) (fault : F) → Good s [] → refuses_end s fault → ⊥) where
+  -- what is good stays so behind the lines that were answered
+  good_behind : (s s' : S) (before rest : List (List ℕ)) (text : List ℕ) → Good s (before ++ rest) → AnswersLines answers s before text s' → Good s' rest
+  good_behind s s' [] rest text good answered = let GoodAt : S → Type 0 = λ x. Good x rest in subst GoodAt (sym answered.1) good
+  good_behind s s' (line ∷ before) rest text good (mid, first, others, short, answer, answered, joined) =
+      good_behind mid s' before rest others (goes_on s mid line first (before ++ rest) good answer) answered
 
-  -- and none of them is too long, whether it has ended or not
-  short_lines : (lines : List (List ℕ)) → AllByRecursion (IsGood refuses) lines → AllByRecursion (λ line. length line ≤ line_limit) lines
-  short_lines [] good = tt
-  short_lines (line ∷ lines) good = (good.0.0, short_lines lines good.1)
+  none_refused : (old : S) (lines more : List (List ℕ)) (text : List ℕ) (n : ℕ) (fault : F) → Good old (lines ++ more) → FirstRefused answers refuses old lines text n fault → ⊥
+  none_refused old lines more text n fault good (line, at, reaches, short, refused) =
+      let all : lines ++ more ≡ reaches.before ++ (line ∷ (reaches.after ++ more)) = ap (λ xs. xs ++ more) reaches.cut ∙ append_assoc reaches.before (line ∷ reaches.after) more in
+      let GoodOld : List (List ℕ) → Type 0 = λ xs. Good old xs in
+      unrefused at line (reaches.after ++ more) fault (good_behind old at reaches.before (line ∷ (reaches.after ++ more)) text (subst GoodOld all good) reaches.answered) refused
 
-  joined : (xs ys : List (List ℕ)) → AllByRecursion (λ line. length line ≤ line_limit) xs → AllByRecursion (λ line. length line ≤ line_limit) ys → AllByRecursion (λ line. length line ≤ line_limit) (xs ++ ys)
+  end_unrefused : (old new : S) (lines : List (List ℕ)) (text : List ℕ) (n : ℕ) (fault : F) → Good old lines → EndRefused answers refuses_end old lines text n fault new → ⊥
+  end_unrefused old new lines text n fault good refused =
+      let GoodOld : List (List ℕ) → Type 0 = λ xs. Good old xs in
+      closes new fault (good_behind old new lines [] text (subst GoodOld (sym (append-nil lines)) good) refused.0) refused.1
+
+  joined : (xs ys : List (List ℕ)) → AllByRecursion IsShortLine xs → AllByRecursion IsShortLine ys → AllByRecursion IsShortLine (xs ++ ys)
   joined [] ys short others = others
   joined (x ∷ xs) ys short others = (short.0, joined xs ys short.1 others)
 
-  all_short : (read rest : List ℕ) → AllByRecursion (IsGood refuses) (all_lines (read ++ rest)) → AllByRecursion (λ line. length line ≤ line_limit) (all_lines read)
-  all_short read rest good =
-      let Good : List (List ℕ) → Type 0 = λ lines. AllByRecursion (IsGood refuses) lines in
-      let split = subst Good (all_lines-split read rest) good in
-      let back = short_lines (all_lines (unfinished read ++ rest)) (all-back (IsGood refuses) (whole_lines read) (all_lines (unfinished read ++ rest)) split) in
-      joined (whole_lines read) (last_line (unfinished read)) (short_lines (whole_lines read) (good_front read rest good))
-      (short_front (unfinished read) rest (has_end-unfinished read) back)
+  -- none of the lines of a front of the bytes is too long, whether it has ended or not
+  all_short : (read rest : List ℕ) → AllByRecursion IsShortLine (all_lines (read ++ rest)) → AllByRecursion IsShortLine (all_lines read)
+  all_short read rest short =
+      let Short : List (List ℕ) → Type 0 = λ lines. AllByRecursion IsShortLine lines in
+      let split = subst Short (all_lines-split read rest) short in
+      joined (whole_lines read) (last_line (unfinished read))
+      (all-front IsShortLine (whole_lines read) (all_lines (unfinished read ++ rest)) split)
+      (short_front (unfinished read) rest (has_end-unfinished read) (all-back IsShortLine (whole_lines read) (all_lines (unfinished read ++ rest)) split))
 
   -- at the end nothing is left
   all_read : (bytes read : List ℕ) (left' : Option (List ℕ)) → Consumes (Some bytes) left' read → IsAtEnd left' → bytes ≡ read
@@ -121,34 +132,37 @@ module _ (Rose : Type 0) {S F : Type 0} (answers : S → List ℕ → List ℕ �
   taken_rest bytes read (Some rest) taken = (rest, taken)
 
   ends_well : (bytes read text : List ℕ) (left' : Option (List ℕ)) (old new : S) (end : Ending F) → Consumes (Some bytes) left' read
-      → AllByRecursion (IsGood refuses) (all_lines bytes) → ((s : S) (fault : F) → refuses_end s fault → ⊥) → (end ≡ ending.ReadFault → ⊥) → (end ≡ ending.WriteFault → ⊥) → (end ≡ ending.TooMuch → ⊥)
+      → AllByRecursion IsShortLine (all_lines bytes) → Good old (all_lines bytes) → (end ≡ ending.ReadFault → ⊥) → (end ≡ ending.WriteFault → ⊥) → (end ≡ ending.TooMuch → ⊥)
       → HasOutcome (Rose × IsAtEnd left') answers refuses may_end refuses_end old read text new end → (end ≡ ending.Done) ⊎ (end ≡ ending.NoMemory)
-  ends_well bytes read text left' old new ending.Done taken good closes reads writes little h = inl refl
-  ends_well bytes read text left' old new (ending.Refused n fault) taken good closes reads writes little (inl h) =
+  ends_well bytes read text left' old new ending.Done taken short good reads writes little h = inl refl
+  ends_well bytes read text left' old new (ending.Refused n fault) taken short good reads writes little (inl h) =
       let rest = taken_rest bytes read left' taken in
-      let Good : List ℕ → Type 0 = λ xs. AllByRecursion (IsGood refuses) (all_lines xs) in
-      absurd (unrefused answers refuses old (whole_lines read) text n fault (good_front read rest.0 (subst Good rest.1 good)) h)
-  ends_well bytes read text left' old new (ending.Refused n fault) taken good closes reads writes little (inr (inl h)) =
-      let Good : List ℕ → Type 0 = λ xs. AllByRecursion (IsGood refuses) (all_lines xs) in
-      absurd (unrefused answers refuses old (all_lines read) text n fault (subst Good (all_read bytes read left' taken h.0.1) good) h.1)
-  ends_well bytes read text left' old new (ending.Refused n fault) taken good closes reads writes little (inr (inr h)) = absurd (closes new fault h.1.1)
-  ends_well bytes read text left' old new (ending.TooLong n) taken good closes reads writes little (line, at, reaches, long) =
+      let GoodOld : List (List ℕ) → Type 0 = λ xs. Good old xs in
+      absurd (none_refused old (whole_lines read) (all_lines (unfinished read ++ rest.0)) text n fault
+      (subst GoodOld (ap all_lines rest.1 ∙ all_lines-split read rest.0) good) h)
+  ends_well bytes read text left' old new (ending.Refused n fault) taken short good reads writes little (inr (inl h)) =
+      let GoodOld : List (List ℕ) → Type 0 = λ xs. Good old xs in
+      absurd (none_refused old (all_lines read) [] text n fault (subst GoodOld (ap all_lines (all_read bytes read left' taken h.0.1) ∙ sym (append-nil (all_lines read))) good) h.1)
+  ends_well bytes read text left' old new (ending.Refused n fault) taken short good reads writes little (inr (inr h)) =
+      let GoodOld : List (List ℕ) → Type 0 = λ xs. Good old xs in
+      absurd (end_unrefused old new (all_lines read) text n fault (subst GoodOld (ap all_lines (all_read bytes read left' taken h.0.1)) good) h.1)
+  ends_well bytes read text left' old new (ending.TooLong n) taken short good reads writes little (line, at, reaches, long) =
       let rest = taken_rest bytes read left' taken in
-      let Good : List ℕ → Type 0 = λ xs. AllByRecursion (IsGood refuses) (all_lines xs) in
-      let short : length line ≤ line_limit = all-at (λ l. length l ≤ line_limit) (all_lines read) reaches.before reaches.after line reaches.cut (all_short read rest.0 (subst Good rest.1 good)) in
+      let Short : List ℕ → Type 0 = λ xs. AllByRecursion IsShortLine (all_lines xs) in
+      let fits : length line ≤ line_limit = all-at IsShortLine (all_lines read) reaches.before reaches.after line reaches.cut (all_short read rest.0 (subst Short rest.1 short)) in
       absurd (omega arith)
-  ends_well bytes read text left' old new ending.TooMuch taken good closes reads writes little h = absurd (little refl)
-  ends_well bytes read text left' old new ending.ReadFault taken good closes reads writes little h = absurd (reads refl)
-  ends_well bytes read text left' old new ending.WriteFault taken good closes reads writes little h = absurd (writes refl)
-  ends_well bytes read text left' old new ending.NoMemory taken good closes reads writes little h = inr refl
+  ends_well bytes read text left' old new ending.TooMuch taken short good reads writes little h = absurd (little refl)
+  ends_well bytes read text left' old new ending.ReadFault taken short good reads writes little h = absurd (reads refl)
+  ends_well bytes read text left' old new ending.WriteFault taken short good reads writes little h = absurd (writes refl)
+  ends_well bytes read text left' old new ending.NoMemory taken short good reads writes little h = inr refl
 
-  -- where the input tells its bytes, all of its lines are good, and the outside doesn't fail
+  -- where the input tells its bytes, its lines are all short and good, and the outside doesn't fail
   pub complete : (bytes : List ℕ) (left' held held' : Option (List ℕ)) (old new : S) (end : Ending F)
-      → AllByRecursion (IsGood refuses) (all_lines bytes) → length bytes ≤ read_limit → ((s : S) (fault : F) → refuses_end s fault → ⊥) → (end ≡ ending.ReadFault → ⊥) → (end ≡ ending.WriteFault → ⊥)
+      → AllByRecursion IsShortLine (all_lines bytes) → Good old (all_lines bytes) → length bytes ≤ read_limit → (end ≡ ending.ReadFault → ⊥) → (end ≡ ending.WriteFault → ⊥)
       → RunsLines (Rose × IsAtEnd left') answers refuses may_end refuses_end (Some bytes) left' held held' old new end → (end ≡ ending.Done) ⊎ (end ≡ ending.NoMemory)
-  complete bytes left' held held' old new end good few closes reads writes run =
+  complete bytes left' held held' old new end short good few reads writes run =
       let rest = taken_rest bytes run.read left' run.taken in
-      ends_well bytes run.read run.text left' old new end run.taken good closes reads writes
+      ends_well bytes run.read run.text left' old new end run.taken short good reads writes
       (λ much. let over : read_limit < length run.read = run.too_much.0 much in
       omega (arith, ap length rest.1, length-append run.read rest.0))
       run.outcome

@@ -1,5 +1,5 @@
 -- Output lines that are added in pieces.
-use Rattle.std.proofs.Common.{◌≡◌, ◌≤◌, ◌/◌, ◌%◌, ℕ, List, [], ◌∷◌, ◌++◌, append_assoc, refl, sym, ◌∙◌, ap, subst, arith, take, drop}
+use Rattle.std.proofs.Common.{◌≡◌, ◌/◌, ◌%◌, ℕ, List, [], ◌∷◌, ◌++◌, append_assoc, refl, sym, ◌∙◌, ap, subst, arith, take, drop}
 use Rattle.std.specs.Prelude.{Option, Result, Ok, Err, OnOk, OnErr, slice_index}
 use Rattle.std.proofs.lemmas.List.{take-append-drop}
 use Rattle.hex.specs.Hex.{encode_lower, encode_with, lower_digits}
@@ -11,14 +11,14 @@ use Rattle.lines.specs.Text.{line_end}
 use Rattle.offline.specs.Records.{reply_line}
 
 -- the digits of some bytes and then of others
-encode_with-append : (digits xs ys : List ℕ) → encode_with digits (xs ++ ys) ≡ encode_with digits xs ++ encode_with digits ys
+pub encode_with-append : (digits xs ys : List ℕ) → encode_with digits (xs ++ ys) ≡ encode_with digits xs ++ encode_with digits ys
 unfolding encode_with
 encode_with-append digits [] ys = refl
 encode_with-append digits (x ∷ xs) ys =
     ap (λ more. slice_index digits (x / 16) ∷ slice_index digits (x % 16) ∷ more) (encode_with-append digits xs ys)
 
 -- where the outside failed, what was to come is lost too
-Loses-more : (a b : Option (List ℕ)) (bytes more : List ℕ) → Loses a b bytes → Loses a b (bytes ++ more)
+pub Loses-more : (a b : Option (List ℕ)) (bytes more : List ℕ) → Loses a b bytes → Loses a b (bytes ++ more)
 Loses-more a b bytes more loses = record {
   sent = loses.sent;
   lost = loses.lost ++ more;

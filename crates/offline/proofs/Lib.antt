@@ -1,6 +1,7 @@
 pub mod Adding
-pub mod Announcing
-pub mod Finding
+pub mod Alike
+pub mod Completing
 pub mod Following
+pub mod FullLemmas
+pub mod Meeting
 pub mod Replaying
-pub mod Scraping

@@ -1,5 +1,5 @@
 pub mod Command
 pub mod Follows
-pub mod Outcome
+pub mod Full
 pub mod Records
 pub mod Replay

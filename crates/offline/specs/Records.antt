@@ -1,21 +1,23 @@
--- What a line of a trace asks of the tracker, and what is written for it.
-use Rattle.std.specs.Prelude.{◌≡◌, ℕ, false, List, [], ◌∷◌, ◌++◌, Option, Some, None, Ok, codes, decimal}
+-- What a record of a trace asks of the tracker, and what is written for it.
+use Rattle.std.specs.Prelude.{◌≡◌, ℕ, List, [], ◌∷◌, ◌++◌, Option, Some, None, Ok, codes, decimal}
 use Rattle.std.specs.Option.{option_map}
 use Rattle.hex.specs.Hex.{encode_lower}
 use Rattle.ot_base.specs.Minute.{minute_at}
-use Rattle.ot_base.specs.declared.hash.Secret.{Secret}
 use Rattle.ot_base.specs.declared.minute.Minute.{Minute}
+use Rattle.ot_io.specs.declared.settings.ReplaySettings.{ReplaySettings}
 use Rattle.lines.specs.Text.{line_end}
-use Rattle.tracker_core.specs.ConnectionPlan.{IsConnectionPlan, connection_calls}
-use Rattle.tracker_core.specs.HttpText.{connection_text}
-use Rattle.tracker_core.specs.UdpPlan.{calls_of, udp_plan}
+use Rattle.access_list.specs.Access.{Listing}
+use Rattle.tracker_core.specs.ConnectionPlan.{IsConnectionPlan}
+use Rattle.tracker_core.specs.UdpPlan.{udp_plan}
 use Rattle.tracker_core.specs.UdpText.{udp_text}
 use Rattle.tracker_core.specs.declared.connection_plan.ConnectionPlan.{ConnectionPlan}
-use Rattle.tracker_core.specs.declared.connection_plan.ConnectionPlan.TheVariants.{More, Rejected, Planned}
+use Rattle.tracker_core.specs.declared.connection_plan.ConnectionPlan.TheVariants.{More, Rejected}
+use Rattle.tracker_core.specs.declared.connection_plan.ConnectionPlan.TheVariants.{Planned}
 use Rattle.tracker_core.specs.declared.udp_plan.UdpPlan.{UdpPlan}
-use Rattle.tracker_core.specs.declared.udp_plan.UdpPlan.TheVariants.{Silent, Connected, Refused, Announce, Scrape}
+use Rattle.tracker_core.specs.declared.udp_plan.UdpPlan.TheVariants.{Silent, Connected, Refused}
+use Rattle.tracker_core.specs.declared.udp_plan.UdpPlan.TheVariants.{Announce, Scrape}
+use Rattle.tracker_model.specs.Placed.{on_each_bucket}
 use Rattle.tracker_model.specs.declared.answer.Answer.{Answer}
-use Rattle.tracker_model.specs.declared.answer.Answer.TheVariants as answer
 use Rattle.tracker_model.specs.declared.call.Call.{Call}
 use Rattle.tracker_model.specs.declared.call.Call.TheVariants as call
 use Rattle.trace_text.specs.Trace.{line_of}
@@ -24,6 +26,9 @@ use Rattle.trace_text.specs.declared.line.TraceLine.TheVariants.{Udp, Http, Clea
 use Rattle.udp_wire.specs.Packets.{request_of}
 use Rattle.udp_wire.specs.declared.request.Quiet.{Quiet}
 use Rattle.udp_wire.specs.declared.request.Quiet.TheVariants as quiet
+use Rattle.request_handler.specs.Cleaning.{held_sum}
+use Rattle.request_handler.specs.Connection.{connection_placed, connection_reply}
+use Rattle.request_handler.specs.Datagram.{udp_placed}
 
 -- what is to be done for a record: for a datagram, for what came on a connection until its end, or
 -- where the cleaner goes over the buckets
@@ -32,32 +37,32 @@ pub data RecordPlan : Type 0 where
   connection : ConnectionPlan → RecordPlan
   cleaning : RecordPlan
 
--- a record's minute, and its plan then. No full scrape is answered
-abbrev pub IsRecordPlan : Secret → TraceLine → Minute → RecordPlan → Type 0
-IsRecordPlan secret (Udp seconds from bytes) minute (datagram plan) =
-    (minute ≡ minute_at seconds) × (plan ≡ udp_plan secret from minute (request_of bytes))
-IsRecordPlan secret (Http seconds from bytes) minute (connection plan) =
-    (minute ≡ minute_at seconds) × IsConnectionPlan bytes from false plan
-IsRecordPlan secret (Clean seconds) minute cleaning = minute ≡ minute_at seconds
-IsRecordPlan secret (Udp seconds from bytes) minute (connection plan) = ⊥
-IsRecordPlan secret (Udp seconds from bytes) minute cleaning = ⊥
-IsRecordPlan secret (Http seconds from bytes) minute (datagram plan) = ⊥
-IsRecordPlan secret (Http seconds from bytes) minute cleaning = ⊥
-IsRecordPlan secret (Clean seconds) minute (datagram plan) = ⊥
-IsRecordPlan secret (Clean seconds) minute (connection plan) = ⊥
+-- a record's minute, and its plan then, of a tracker with these settings and this access list
+abbrev pub IsRecordPlan : ReplaySettings → Option Listing → TraceLine → Minute → RecordPlan → Type 0
+IsRecordPlan s access (Udp seconds from bytes) minute (datagram plan) =
+    (minute ≡ minute_at seconds) × (plan ≡ udp_plan s.secret access from minute (request_of bytes))
+IsRecordPlan s access (Http seconds from bytes) minute (connection plan) =
+    (minute ≡ minute_at seconds) × IsConnectionPlan bytes access from s.full plan
+IsRecordPlan s access (Clean seconds) minute cleaning = minute ≡ minute_at seconds
+IsRecordPlan s access (Udp seconds from bytes) minute (connection plan) = ⊥
+IsRecordPlan s access (Udp seconds from bytes) minute cleaning = ⊥
+IsRecordPlan s access (Http seconds from bytes) minute (datagram plan) = ⊥
+IsRecordPlan s access (Http seconds from bytes) minute cleaning = ⊥
+IsRecordPlan s access (Clean seconds) minute (datagram plan) = ⊥
+IsRecordPlan s access (Clean seconds) minute (connection plan) = ⊥
 
 -- the same of a line
-pub record IsLinePlan (secret : Secret) (line : List ℕ) (minute : Minute) (plan : RecordPlan)
-    : Type 0 where
+pub record IsLinePlan (s : ReplaySettings) (access : Option Listing) (line : List ℕ)
+    (minute : Minute) (plan : RecordPlan) : Type 0 where
   pub recorded : TraceLine
   pub read : line_of line ≡ Ok recorded
-  pub planned : IsRecordPlan secret recorded minute plan
+  pub planned : IsRecordPlan s access recorded minute plan
 
--- the calls that a plan makes, in order
-abbrev pub record_calls : RecordPlan → List Call
-record_calls (datagram plan) = calls_of plan
-record_calls (connection plan) = connection_calls plan
-record_calls cleaning = call.Clean ∷ []
+-- the calls that a plan makes, in order, each in its bucket
+abbrev pub record_placed : (bits : ℕ) → RecordPlan → List (ℕ × Call)
+record_placed bits (datagram plan) = udp_placed bits plan
+record_placed bits (connection plan) = connection_placed bits plan
+record_placed bits cleaning = on_each_bucket bits call.Clean
 
 -- why a datagram has no reply, in a word
 abbrev pub quiet_word : Quiet → List ℕ
@@ -99,34 +104,16 @@ datagram_output (Scrape transaction hashes) answers =
 abbrev pub connection_output : ConnectionPlan → List Answer → Option (List ℕ)
 connection_output More answers = Some cut_line
 connection_output (Rejected code) answers =
-    option_map reply_line (connection_text (Rejected code) answers)
+    option_map reply_line (connection_reply (Rejected code) answers)
 connection_output (Planned plan) answers =
-    option_map reply_line (connection_text (Planned plan) answers)
+    option_map reply_line (connection_reply (Planned plan) answers)
 
--- the output line of a cleaning that left so many peers
+-- the output line of a cleaning that left so many peers in all buckets together
 abbrev pub cleaned_line : ℕ → List ℕ
 cleaned_line held = codes "C " ++ decimal held ++ line_end ∷ []
-
--- how many peers are left in a bucket that was cleaned
-abbrev pub held_after : Answer → Option ℕ
-held_after (answer.Cleaned held) = Some held
-held_after (answer.Told counts peers) = None
-held_after (answer.Stats counts known) = None
-held_after (answer.Rows rows) = None
-held_after answer.Applied = None
-held_after (answer.Drained notes dropped) = None
-held_after (answer.SwarmFull count) = None
-held_after (answer.BucketFull count) = None
-held_after answer.NoMemory = None
-
--- the output line of a cleaning, by the one bucket's answer
-abbrev pub cleaning_output : List Answer → Option (List ℕ)
-cleaning_output [] = None
-cleaning_output (cleaned ∷ []) = option_map cleaned_line (held_after cleaned)
-cleaning_output (cleaned ∷ second ∷ others) = None
 
 -- the output line of a record
 abbrev pub output_line : RecordPlan → List Answer → Option (List ℕ)
 output_line (datagram plan) answers = datagram_output plan answers
 output_line (connection plan) answers = connection_output plan answers
-output_line cleaning answers = cleaning_output answers
+output_line cleaning answers = option_map cleaned_line (held_sum answers)

@@ -2,12 +2,14 @@
 //! trace, in which each record is answered as the tracker would have answered it.
 #![tactic(auto)]
 
-mod carry_out;
+mod answerer;
 pub mod command;
-mod connection;
+mod full;
 mod output;
+mod phase;
 mod replay;
 #[cfg(test)]
 mod tests;
+mod words;
 
-pub use command::{Offline, run_offline};
+pub use command::{Fault, Offline, run_offline};

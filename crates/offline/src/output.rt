@@ -5,17 +5,18 @@ ghost use Rattle.std.specs.Prelude.{OnErr, length, take};
 ghost use Rattle.hex.specs.Hex.{encode_lower};
 ghost use Rattle.tracker_core.specs.declared.udp_plan.UdpPlan.{UdpPlan};
 ghost use Rattle.tracker_model.specs.declared.answer.Answer.{Answer};
-ghost use Rattle.offline.specs.Outcome.{HasRoom, IsOutcome};
-ghost use Rattle.offline.specs.Records.{cleaned_line, datagram_output, reply_line, sent_line, silent_line};
+ghost use Rattle.request_handler.specs.Datagram.{HasRoom, IsOutcome};
+ghost use Rattle.offline.specs.Records.{cleaned_line, datagram_output, reply_line, sent_line};
+ghost use Rattle.offline.specs.Records.{silent_line};
 ghost use Rattle.lines.specs.Replies.{Adds, Loses};
 ghost use Rattle.lines.specs.Streams.{IsLaterSink};
 ghost use Rattle.ot_io.specs.Counts.{Rose};
 
-use crate::carry_out::Outcome;
 use itoa::Buffer;
 use lines::{Replies, WriteFault};
 use ot_base::Bytes;
 use ot_io::Sink;
+use request_handler::Outcome;
 use udp_wire::{Quiet, REPLY_ROOM};
 
 /// How many bytes an output line has at most: two before the digits, two digits a byte, and the
@@ -73,7 +74,7 @@ fn write_silent_line(quiet: Quiet, out: &mut [u8; OUTPUT_ROOM]) -> usize
 }
 
 /// Writes the output line of a cleaning that left so many peers, and tells how many bytes that is.
-pub fn write_cleaned_line(held: u64, out: &mut [u8; OUTPUT_ROOM]) -> usize
+pub fn write_cleaned_line(held: u128, out: &mut [u8; OUTPUT_ROOM]) -> usize
     ensures line { take result out.new ≡ cleaned_line held }
     ensures fits { result ≤ OUTPUT_ROOM }
 {
@@ -134,7 +135,7 @@ fn add_reply_line<O: Sink>(
 }
 
 /// Adds bytes as lower-case hex digits, piece by piece.
-fn add_digits<O: Sink>(
+pub fn add_digits<O: Sink>(
     replies: &mut Replies,
     out: &mut O,
     bytes: &[u8],

@@ -1,13 +1,18 @@
 //! Runs of the whole command over inputs and outputs in memory. The replies were computed by
 //! another SHA-1.
 
+ghost use Rattle.offline.specs.Command.{IsOffered};
+
 use crate::{Offline, run_offline};
-use ot_base::{Secret, TraceFault};
+use ot_base::{Limits, Secret, TraceFault};
 use ot_io::{LineFault, MemSink, MemSource, ReplaySettings, Status};
 use std::test::Fail;
 
+mod access;
 mod connections;
 mod datagrams;
+mod full;
+mod settings;
 
 const TRACE: &str = "U 0 192.0.2.1 5000 00000417271019800000000012345678
 U 4294967339 10.0.0.255 1 000004172710198000000000FFFFFFFF01020304
@@ -27,20 +32,54 @@ const CONNECTED: &str = "R 00000000123456783a09986f9ddc6775\n";
 /// Room for all that a run here writes.
 const ROOM: usize = 1 << 18;
 
-/// A replay whose secret is 20 zero bytes.
-const REPLAY: Offline = Offline::Replay(ReplaySettings {
+/// Settings as the program has them where it is told none.
+const USUAL: ReplaySettings = ReplaySettings {
+    bits: 10,
+    limits: Limits {
+        peers: 100_000,
+        torrents: 65_536,
+    },
+    full: false,
     secret: Secret([0; 20]),
-});
+    seed: 0,
+    access: None,
+};
 
-/// Replays the input, and gives the status and what was told on err.
+/// Replays the input by the usual settings, and gives the status and what was told on err.
 fn replay(
     rt: &HostRuntime,
     input: &mut MemSource,
     out: &mut MemSink,
 ) -> Result<(Status, Vec<u8>), Fail> {
+    replay_by(rt, USUAL, input, out)
+}
+
+/// Replays the input by other settings, likewise.
+fn replay_by(
+    rt: &HostRuntime,
+    settings: ReplaySettings,
+    input: &mut MemSource,
+    out: &mut MemSink,
+) -> Result<(Status, Vec<u8>), Fail>
+    requires { IsOffered settings }
+{
     let mut err = MemSink::with_capacity(rt.alloc(), ROOM, ROOM, &[])?;
-    let status = run_offline(rt.alloc(), &REPLAY, input, out, &mut err);
+    let status = run_offline(rt.alloc(), &Offline::Replay(settings), input, out, &mut err);
     Ok((status, err.written().to_vec(rt.alloc())?))
+}
+
+/// What a replay of the input by these settings ends with and writes.
+fn replayed(
+    rt: &HostRuntime,
+    settings: ReplaySettings,
+    input: &str,
+) -> Result<(Status, Vec<u8>), Fail>
+    requires { IsOffered settings }
+{
+    let mut source = MemSource::new(input.as_bytes(), &[], &[]);
+    let mut sink = MemSink::with_capacity(rt.alloc(), ROOM, ROOM, &[])?;
+    let (status, _) = replay_by(rt, settings, &mut source, &mut sink)?;
+    Ok((status, sink.written().to_vec(rt.alloc())?))
 }
 
 fn count_lines(text: &[u8]) -> usize {

@@ -2,8 +2,8 @@
 use Rattle.std.specs.Prelude.{◌≡◌, ◌≢◌, ℕ, ◌⊎◌, List, Option, Result, MatchResult}
 use Rattle.std.specs.declared.io.ErrorKind.{ErrorKind}
 use Rattle.std.specs.declared.io.ErrorKind.TheVariants as kinds
-use Rattle.offline.specs.Command.{ReplayRun, secret_of}
-use Rattle.ot_base.specs.declared.hash.Secret.{Secret}
+use Rattle.offline.specs.Command.{ReplayRun, settings_of}
+use Rattle.ot_io.specs.declared.settings.ReplaySettings.{ReplaySettings}
 use Rattle.ot_io.specs.declared.status.Status.{Status}
 use Rattle.ot_io.specs.declared.status.Status.TheVariants as ended
 use Rattle.opentracker.specs.Words.{command_of}
@@ -12,9 +12,9 @@ use Rattle.opentracker.specs.declared.words.Command.TheVariants as command
 use Rattle.opentracker.specs.declared.words.WordsFault.{WordsFault}
 use Rattle.opentracker.specs.declared.words.WordsFault.TheVariants.{At}
 
--- the secret of the replay that words ask for
-abbrev pub replay_secret : Command → Secret
-replay_secret (command.Offline offline) = secret_of offline
+-- the settings of the replay that words ask for
+abbrev pub replay_settings : Command → ReplaySettings
+replay_settings (command.Offline offline) = settings_of offline
 
 -- the status of words that can't be read
 abbrev pub words_status : WordsFault → Status
@@ -27,7 +27,7 @@ module _ {S O : Type 0} (left : S → Option (List ℕ)) (ends reads : S → ℕ
   abbrev pub IsRun : Result Command WordsFault → S → S → O → O → Status → Type 0
   IsRun asked input input' out out' status =
       MatchResult asked
-      (λ command. ReplayRun left ends reads written writes (replay_secret command)
+      (λ command. ReplayRun left ends reads written writes (replay_settings command)
       input input' out out' status)
       (λ fault. (status ≡ words_status fault) × (input' ≡ input) × (out' ≡ out))
 

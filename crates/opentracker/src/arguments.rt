@@ -33,11 +33,30 @@ pub fn run_args<S: Source, O: Sink, E: Sink>(
         × TellsLine (E.written err.old) (E.written err.new)
         (E.faults err.old) (E.faults err.new) (status_text status) }
 {
-    let status = match args {
+    run_asked(alloc, args, input, out, err).code()
+}
+
+/// Runs what the arguments ask for, or tells that they can't be read.
+fn run_asked<S: Source, O: Sink, E: Sink>(
+    alloc: Global,
+    args: io::Result<Args>,
+    input: &mut S,
+    out: &mut O,
+    err: &mut E,
+) -> Status
+    ensures ran { MatchResult args
+        (λ texts. IsWordsRun S.left S.ends S.faults O.written O.faults
+        (map string_bytes (drop 1 (into_iter_items texts)))
+        input.old input.new out.old out.new result)
+        (λ error. IsUnread (error_kind error) result
+        × (input.new ≡ input.old) × (out.new ≡ out.old)) }
+    ensures told { TellsLine (E.written err.old) (E.written err.new)
+        (E.faults err.old) (E.faults err.new) (status_text result) }
+{
+    match args {
         Ok(args) => run_read(alloc, args, input, out, err),
         Err(error) => tell(unread_status(&error), err),
-    };
-    status.code()
+    }
 }
 
 /// Runs what arguments ask for that could be read.

@@ -2,13 +2,14 @@
 use Rattle.std.specs.Prelude.{ℕ, ◌≤◌, ◌<◌, List, [], ◌∷◌, ◌++◌, length, take, Option}
 use Rattle.std.specs.Prelude.{codes, decimal}
 use Rattle.std.specs.Io.KnownBytes.{Appends}
-use Rattle.ot_base.specs.Fault.{trace_fault_word}
+use Rattle.ot_base.specs.Fault.{access_fault_word, trace_fault_word}
 use Rattle.ot_io.specs.Counts.{Rose}
 use Rattle.ot_io.specs.declared.status.LineFault.{LineFault}
 use Rattle.ot_io.specs.declared.status.LineFault.TheVariants.{Trace}
 use Rattle.ot_io.specs.declared.status.Status.{Status}
 use Rattle.ot_io.specs.declared.status.Status.TheVariants.{Done, Words, NoMemory, ReadFault}
 use Rattle.ot_io.specs.declared.status.Status.TheVariants.{WriteFault, Line, TooLong, TooMuch}
+use Rattle.ot_io.specs.declared.status.Status.TheVariants as status
 
 -- the program's name, then what happened, then 0x0A
 abbrev pub message : List ℕ → List ℕ
@@ -31,6 +32,7 @@ status_text WriteFault = message (codes "write fault")
 status_text (Line line fault) = line_message line (fault_word fault)
 status_text (TooLong line) = line_message line (codes "too long")
 status_text TooMuch = message (codes "too much input")
+status_text (status.List line fault) = line_message line (access_fault_word fault)
 
 -- a text was written, or only a front of it, and then the count of faults rose
 abbrev pub TellsLine : Option (List ℕ) → Option (List ℕ) → ℕ → ℕ → List ℕ → Type 0

@@ -1,10 +1,21 @@
 //! What a run is told by its command line.
 
-use ot_base::Secret;
+use ot_base::{Limits, Mode, Secret};
 
 /// The settings of a replay.
 #[derive(Clone, Copy, Debug, PartialEq, Eq)]
 pub struct ReplaySettings {
+    /// How many bits of a hash tell its bucket, at most 10.
+    pub bits: u32,
+    /// How much the tracker holds, each number from 1 to 1,000,000.
+    pub limits: Limits,
+    /// Whether a client may ask for all torrents at once.
+    pub full: bool,
     /// What goes into the connection ids.
     pub secret: Secret,
+    /// Where the random numbers begin that choose the peers a client is told.
+    pub seed: u64,
+    /// What the access list that the input begins with does with its torrents. Without a list there
+    /// are none of its lines, and every torrent is admitted.
+    pub access: Option<Mode>,
 }

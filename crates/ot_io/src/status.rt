@@ -4,7 +4,7 @@ ghost use Rattle.std.specs.Prelude.{◌≡◌, ◌≤◌, length};
 ghost use Rattle.ot_io.specs.Message.{fault_word};
 ghost use Rattle.ot_io.specs.Status.{code_of};
 
-use ot_base::TraceFault;
+use ot_base::{AccessFault, TraceFault};
 
 /// What is wrong with a line of the input.
 #[derive(Clone, Copy, Debug, PartialEq, Eq)]
@@ -44,6 +44,9 @@ pub enum Status {
     TooLong { line: u64 },
     /// 2^40 bytes were read, and more came.
     TooMuch,
+    /// This line, from 1, is the first of the access list that is refused. Where the input ended
+    /// before the list did, it is the line after the last.
+    List { line: u64, fault: AccessFault },
 }
 
 impl Status {
@@ -60,6 +63,7 @@ impl Status {
             Status::Line { .. } => 6,
             Status::TooLong { .. } => 7,
             Status::TooMuch => 8,
+            Status::List { .. } => 9,
         }
     }
 }

@@ -1,6 +1,7 @@
 -- What is to be done for the target of an HTTP request (BEP 3, BEP 23, BEP 48), as a function of
--- its bytes, of who asks, and of whether all torrents may be asked for at once. Of the pairs of a
--- name the first one counts, but for the hashes of a scrape.
+-- its bytes, of the torrents that the tracker takes part in, of who asks, and of whether all
+-- torrents may be asked for at once. Of the pairs of a name the first one counts, but for the
+-- hashes of a scrape.
 use Rattle.std.specs.Prelude.{ℕ, ◌≤◌, nat_le, ◌==◌, ◌&&◌, Bool, false, List, [], ◌∷◌, codes}
 use Rattle.std.specs.Prelude.{Option, Some, None, Result, Ok, Err}
 use Rattle.std.specs.Prelude.{length, map, slice_get, option_and_then, if◌then◌else◌}
@@ -18,6 +19,7 @@ use Rattle.ot_base.specs.declared.refusal.Refusal.TheVariants as refusal
 use Rattle.tracker_model.specs.Counted.{ascending}
 use Rattle.tracker_model.specs.declared.call.Call.{Call}
 use Rattle.tracker_model.specs.declared.call.Call.TheVariants as call
+use Rattle.access_list.specs.Access.{Listing, admits_hash}
 use Rattle.query_read.specs.Query.{Pair, number_of, target_of, values_of}
 use Rattle.query_read.specs.declared.target.Target.{Target}
 use Rattle.query_read.specs.declared.target.Target.TheVariants as target
@@ -75,16 +77,19 @@ named_call from pairs hash port =
     report_call (event_named (first_value pairs (codes "event"))) hash (listener_of from port)
     (is_done pairs) (peers_wanted (first_number pairs (codes "numwant")))
 
--- an announce is refused for its torrent first, then for its port; else its call is made
-abbrev pub judged_plan : Endpoint → List Pair → Result InfoHash Refusal → Result ℕ Refusal
-    → HttpPlan
-judged_plan from pairs (Err why) port = Refused why
-judged_plan from pairs (Ok hash) (Err why) = Refused why
-judged_plan from pairs (Ok hash) (Ok port) = Announce (named_call from pairs hash port)
+-- An announce or a stop is refused for its torrent's hash first, then for its port, then where the
+-- torrent isn't admitted; else its call is made.
+abbrev pub judged_plan : Option Listing → Endpoint → List Pair → Result InfoHash Refusal
+    → Result ℕ Refusal → HttpPlan
+judged_plan access from pairs (Err why) port = Refused why
+judged_plan access from pairs (Ok hash) (Err why) = Refused why
+judged_plan access from pairs (Ok hash) (Ok port) =
+    if admits_hash access hash then Announce (named_call from pairs hash port)
+    else Refused refusal.Denied
 
-abbrev pub announce_plan : Endpoint → List Pair → HttpPlan
-announce_plan from pairs =
-    judged_plan from pairs (hash_named (first_value pairs (codes "info_hash")))
+abbrev pub announce_plan : Option Listing → Endpoint → List Pair → HttpPlan
+announce_plan access from pairs =
+    judged_plan access from pairs (hash_named (first_value pairs (codes "info_hash")))
     (port_named (first_value pairs (codes "port")))
 
 -- the torrents that a scrape names, each once in ascending order, where each value is an info hash
@@ -102,15 +107,15 @@ scrape_plan full [] = if full then Full else NotFound
 scrape_plan full (value ∷ values) = named_plan (hashes_named (value ∷ values))
 
 -- the plan for what a target asks
-abbrev pub plan_of_target : Endpoint → (full : Bool) → Target → HttpPlan
-plan_of_target from full (target.Announce pairs) = announce_plan from pairs
-plan_of_target from full (target.Scrape pairs) =
+abbrev pub plan_of_target : Option Listing → Endpoint → (full : Bool) → Target → HttpPlan
+plan_of_target access from full (target.Announce pairs) = announce_plan access from pairs
+plan_of_target access from full (target.Scrape pairs) =
     scrape_plan full (values_of pairs (codes "info_hash"))
-plan_of_target from full target.Other = NotFound
+plan_of_target access from full target.Other = NotFound
 
 -- the plan for the bytes of a target
-abbrev pub http_plan : (bytes : List ℕ) → Endpoint → (full : Bool) → HttpPlan
-http_plan bytes from full = plan_of_target from full (target_of bytes)
+abbrev pub http_plan : (bytes : List ℕ) → Option Listing → Endpoint → (full : Bool) → HttpPlan
+http_plan bytes access from full = plan_of_target access from full (target_of bytes)
 
 -- The calls that a plan makes, in order: none, one, or a scrape for each hash. A full scrape isn't
 -- carried out call by call: who streams it scans each bucket.

@@ -1,6 +1,6 @@
 //! The plan for what a connection has sent.
 
-ghost use Rattle.std.specs.Prelude.{◌≡◌, false, IfOk};
+ghost use Rattle.std.specs.Prelude.{◌≡◌, false, IfOk, option_copied};
 ghost use Rattle.std.specs.List.{AllByRecursion};
 ghost use Rattle.ot_base.specs.Address.{family_of};
 ghost use Rattle.ot_base.specs.declared.address.Family.TheVariants.{Four};
@@ -9,6 +9,7 @@ ghost use Rattle.tracker_core.specs.ConnectionPlan.{IsBoundedConnection, IsCompl
 ghost use Rattle.tracker_core.specs.ConnectionPlan.{IsConnectionPlan, connection_calls, head_front};
 
 use crate::http_plan::{HttpPlan, plan_http};
+use access_list::AccessList;
 use http_wire::{Code, Head, find_head};
 use ot_base::Endpoint;
 use std::alloc::{AllocError, Global};
@@ -38,10 +39,12 @@ pub fn plan_connection(
     alloc: Global,
     bytes: &[u8],
     from: Endpoint,
+    access: Option<&AccessList>,
     full: bool,
 ) -> Result<ConnectionPlan, AllocError>
     requires { family_of from.addr ≡ Four }
-    ensures planned { IfOk result (λ plan. IsConnectionPlan bytes.now from full plan) }
+    ensures planned { IfOk result
+        (λ plan. IsConnectionPlan bytes.now (option_copied access.entry) from full plan) }
     ensures formed { IfOk result (λ plan. AllByRecursion IsWellFormed (connection_calls plan)) }
     ensures complete { IfOk result IsCompleteConnection }
     ensures bounded { full ≡ false → IfOk result IsBoundedConnection }
@@ -55,7 +58,7 @@ pub fn plan_connection(
             ..
         } => {
             if get {
-                let plan = plan_http(alloc, &front[start..to], from, full)?;
+                let plan = plan_http(alloc, &front[start..to], from, access, full)?;
                 Ok(ConnectionPlan::Planned(plan))
             } else {
                 Ok(ConnectionPlan::Rejected(Code::BadRequest))

@@ -15,6 +15,7 @@ ghost use Rattle.tracker_core.specs.HttpPlan.{http_calls, http_plan, named_call,
 ghost use Rattle.tracker_core.specs.HttpPlan.{scrape_plan};
 
 use crate::report::{peers_wanted, report_call};
+use access_list::{AccessList, admits_hash};
 use ot_base::{Endpoint, Event, HashList, InfoHash, Refusal};
 use query_read::{Query, Target, read_number, read_target};
 use std::alloc::{AllocError, Global};
@@ -40,32 +41,35 @@ pub enum HttpPlan {
 /// The plan for a target of any bytes, from an endpoint of IPv4. `full` says whether a client may
 /// ask for all torrents at once.
 ///
-/// An announce is refused for its info hash first, then for its port. Of the pairs of a name the
-/// first one counts; but a scrape may name several info hashes. Two blocks of memory are taken for
-/// a query, which are given back, and one more for the hashes of a scrape.
+/// An announce or a stop is refused for its info hash first, then for its port, then where the
+/// access list doesn't admit the torrent, if there is a list. A scrape isn't judged by the list. Of
+/// the pairs of a name the first one counts; but a scrape may name several info hashes. Two blocks
+/// of memory are taken for a query, which are given back, and one more for the hashes of a scrape.
 pub fn plan_http(
     alloc: Global,
     target: &[u8],
     from: Endpoint,
+    access: Option<&AccessList>,
     full: bool,
 ) -> Result<HttpPlan, AllocError>
     requires { family_of from.addr ≡ Four }
-    ensures planned { IfOk result (λ plan. plan ≡ http_plan target.now from full) }
+    ensures planned { IfOk result
+        (λ plan. plan ≡ http_plan target.now (option_copied access.entry) from full) }
     ensures formed { IfOk result (λ plan. AllByRecursion IsWellFormed (http_calls plan)) }
     ensures complete { IfOk result IsCompleteHttp }
     ensures ascending { IfOk result ScrapesInOrder }
 {
     match read_target(alloc, target)? {
-        Target::Announce(query) => Ok(plan_announce(&query, from)),
+        Target::Announce(query) => Ok(plan_announce(&query, from, access)),
         Target::Scrape(query) => plan_scrape(alloc, &query, full),
         Target::Other => Ok(HttpPlan::NotFound),
     }
 }
 
 /// The plan for the query of an announce.
-fn plan_announce(query: &Query, from: Endpoint) -> HttpPlan
+fn plan_announce(query: &Query, from: Endpoint, access: Option<&AccessList>) -> HttpPlan
     requires { family_of from.addr ≡ Four }
-    ensures planned { result ≡ announce_plan from query.now }
+    ensures planned { result ≡ announce_plan (option_copied access.entry) from query.now }
     ensures formed { AllByRecursion IsWellFormed (http_calls result) }
     ensures complete { IsCompleteHttp result }
     ensures ascending { ScrapesInOrder result }
@@ -78,6 +82,9 @@ fn plan_announce(query: &Query, from: Endpoint) -> HttpPlan
         Ok(port) => port,
         Err(why) => return HttpPlan::Refused(why),
     };
+    if !admits_hash(access, &hash) {
+        return HttpPlan::Refused(Refusal::Denied);
+    }
     HttpPlan::Announce(named_call(query, from, hash, port))
 }
 

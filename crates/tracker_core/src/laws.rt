@@ -1,6 +1,6 @@
 //! Laws of the definitions: each function's contract is the law, and its body is empty.
 
-ghost use Rattle.std.specs.Prelude.{◌≡◌, ◌<◌, ◌^◌, All, Bool, List, flat_map, length, map, ℕ};
+ghost use Rattle.std.specs.Prelude.{◌≡◌, ◌<◌, ◌^◌, All, Bool, List, Option, flat_map, length, map, ℕ};
 ghost use Rattle.std.specs.List.Sorted.{IsStrictlySortedBy};
 ghost use Rattle.ot_base.specs.Order.{hash_cmp};
 ghost use Rattle.ot_base.specs.declared.address.Endpoint.{Endpoint};
@@ -8,6 +8,7 @@ ghost use Rattle.ot_base.specs.declared.address.Family.{Family};
 ghost use Rattle.ot_base.specs.declared.peer.Counts.{Counts};
 ghost use Rattle.ot_base.specs.declared.peer.Row.{Row};
 ghost use Rattle.ot_base.specs.declared.refusal.Refusal.{Refusal};
+ghost use Rattle.access_list.specs.Access.{Listing};
 ghost use Rattle.udp_wire.specs.Packets.{peer_bytes};
 ghost use Rattle.udp_wire.specs.Replies.{IsOf32Bits};
 ghost use Rattle.bencode_text.specs.Bencode.{IsCanonical};
@@ -17,8 +18,10 @@ ghost use Rattle.tracker_core.specs.declared.connection_plan.ConnectionPlan.{Con
 
 /// Bytes that a connection has sent have one plan.
 pub fn one_plan()
-    ensures { (bytes : List ℕ) (from : Endpoint) (full : Bool) (a b : ConnectionPlan) →
-        IsConnectionPlan bytes from full a → IsConnectionPlan bytes from full b → a ≡ b }
+    ensures { (bytes : List ℕ) (access : Option Listing) (from : Endpoint) (full : Bool)
+        (a b : ConnectionPlan) →
+        IsConnectionPlan bytes access from full a → IsConnectionPlan bytes access from full b →
+        a ≡ b }
 {}
 
 /// The bodies of replies are canonical bencode, where counts, hashes and peers are as their types

@@ -9,9 +9,13 @@ ghost use Rattle.ot_base.specs.declared.address.Family.TheVariants.{Four};
 ghost use Rattle.tracker_core.specs.HttpText.{HasBody};
 
 use super::*;
+use access_list::{AccessList, ListReader, Mode};
 use bencode_text::is_canonical;
+use conn_id::mint;
 use http_wire::{Code, write_reply};
-use ot_base::{Addr, Counts, Endpoint, Family, InfoHash, Peers, Refusal, Row, Rows};
+use ot_base::{
+    Addr, Counts, Endpoint, Family, InfoHash, Minute, Peers, Refusal, Row, Rows, Secret,
+};
 use std::alloc::{AllocError, Global};
 use std::test::Fail;
 use tracker_model::{Answer, Call};
@@ -21,6 +25,10 @@ const FROM: Endpoint = Endpoint {
     addr: Addr::V4([192, 0, 2, 1]),
     port: 5000,
 };
+
+const SECRET: Secret = Secret([0; 20]);
+
+const MINUTE: Minute = Minute(7);
 
 /// What a plan comes to: a word of its own, or the text of its refusal.
 fn outcome(plan: &HttpPlan) -> &'static str {
@@ -123,10 +131,10 @@ fn targets_are_judged(rt: HostRuntime) -> Result<(), Fail> {
         ("no path", b"", "not found"),
     ];
     for (label, target, expected) in rows {
-        let plan = plan_http(rt.alloc(), target, FROM, false)?;
+        let plan = plan_http(rt.alloc(), target, FROM, None, false)?;
         assert_eq!(rt; outcome(&plan), expected, "{label}");
     }
-    let all = plan_http(rt.alloc(), b"/scrape?&", FROM, true)?;
+    let all = plan_http(rt.alloc(), b"/scrape?&", FROM, None, true)?;
     assert_eq!(rt; outcome(&all), "full");
     Ok(())
 }
@@ -150,7 +158,7 @@ fn ports_are_judged(rt: HostRuntime) -> Result<(), Fail> {
     for (pair, expected) in rows {
         let mut target = Vec::from_slice(rt.alloc(), b"/announce?info_hash=aaaaaaaaaaaaaaaaaaaa&")?;
         target.extend_from_slice(pair)?;
-        let plan = plan_http(rt.alloc(), &target, FROM, false)?;
+        let plan = plan_http(rt.alloc(), &target, FROM, None, false)?;
         assert_eq!(rt; outcome(&plan), expected, "{pair:?}");
     }
     Ok(())
@@ -182,7 +190,7 @@ fn calls_of_announces(rt: HostRuntime) -> Result<(), Fail> {
             b"/announce?info_hash=aaaaaaaaaaaaaaaaaaaa&port=6881&",
         )?;
         target.extend_from_slice(pairs)?;
-        let plan = plan_http(rt.alloc(), &target, FROM, false)?;
+        let plan = plan_http(rt.alloc(), &target, FROM, None, false)?;
         let expected = Call::Announce {
             hash: InfoHash(*b"aaaaaaaaaaaaaaaaaaaa"),
             who: Endpoint {
@@ -213,10 +221,121 @@ fn scraped_hashes_ascend(rt: HostRuntime) -> Result<(), Fail> {
         InfoHash([b'1'; 20]),
         InfoHash([0xff; 20]),
     ];
-    match plan_http(rt.alloc(), target, FROM, true)? {
+    match plan_http(rt.alloc(), target, FROM, None, true)? {
         HttpPlan::Scrape(hashes) => assert!(rt; hashes.as_slice() == expected.as_slice()),
         plan => assert_eq!(rt; outcome(&plan), "scrape"),
     }
+    Ok(())
+}
+
+/// A list of one torrent, whose hash is one hex digit 40 times.
+fn list_of(alloc: Global, mode: Mode, digit: u8) -> Result<AccessList, Fail> {
+    let mut reader = ListReader::new(alloc, mode);
+    reader.line(&[digit; 40])?;
+    Ok(reader.finish()?)
+}
+
+/// A datagram (BEP 15) that announces the torrent of 20 bytes 0x11, with an id of its address.
+fn announce_bytes(event: u8, port: u8) -> [u8; 98] {
+    let mut bytes = [0; 98];
+    bytes[..8].copy_from_slice(&mint(&SECRET, FROM.addr, MINUTE).to_be_bytes());
+    bytes[11] = 1;
+    bytes[16..36].fill(0x11);
+    bytes[83] = event;
+    bytes[97] = port;
+    bytes
+}
+
+/// A datagram that scrapes it.
+fn scrape_bytes() -> [u8; 36] {
+    let mut bytes = [0; 36];
+    bytes[..8].copy_from_slice(&mint(&SECRET, FROM.addr, MINUTE).to_be_bytes());
+    bytes[11] = 2;
+    bytes[16..].fill(0x11);
+    bytes
+}
+
+/// What a datagram's plan comes to: a word of its own, or the text of its refusal.
+fn udp_outcome(plan: &UdpPlan) -> &'static str {
+    match plan {
+        UdpPlan::Silent(_) => "silent",
+        UdpPlan::Connected { .. } => "connected",
+        UdpPlan::Refused { why, .. } => why.text(),
+        UdpPlan::Announce { call, .. } => match call {
+            Call::Stop { .. } => "stop",
+            _ => "announce",
+        },
+        UdpPlan::Scrape { .. } => "scrape",
+    }
+}
+
+#[test]
+fn lists_judge_datagrams(rt: HostRuntime) -> Result<(), Fail> {
+    let denied = list_of(rt.alloc(), Mode::Deny, b'1')?;
+    let allowed = list_of(rt.alloc(), Mode::Allow, b'1')?;
+    let others = list_of(rt.alloc(), Mode::Allow, b'2')?;
+    let announce = announce_bytes(2, 1);
+    let stop = announce_bytes(3, 1);
+    let no_port = announce_bytes(2, 0);
+    let mut no_id = announce;
+    no_id[0] ^= 1;
+    let scrape = scrape_bytes();
+    let rows: [(&str, &AccessList, &[u8], &str); 9] = [
+        ("denied", &denied, &announce, "not authorized"),
+        (
+            "not among the allowed",
+            &others,
+            &announce,
+            "not authorized",
+        ),
+        ("allowed", &allowed, &announce, "announce"),
+        ("a stop that is denied", &denied, &stop, "not authorized"),
+        ("a stop that is allowed", &allowed, &stop, "stop"),
+        ("a scrape isn't judged", &denied, &scrape, "scrape"),
+        ("by those allowed neither", &others, &scrape, "scrape"),
+        ("port 0 goes first", &denied, &no_port, "bad port"),
+        ("the id goes first", &denied, &no_id, "bad connection id"),
+    ];
+    for (label, access, bytes, expected) in rows {
+        let plan = plan_udp(bytes, FROM, MINUTE, &SECRET, Some(access));
+        assert_eq!(rt; udp_outcome(&plan), expected, "{label}");
+    }
+    let plan = plan_udp(&announce, FROM, MINUTE, &SECRET, None);
+    assert_eq!(rt; udp_outcome(&plan), "announce");
+    Ok(())
+}
+
+#[test]
+fn lists_judge_targets(rt: HostRuntime) -> Result<(), Fail> {
+    let denied = list_of(rt.alloc(), Mode::Deny, b'3')?;
+    let allowed = list_of(rt.alloc(), Mode::Allow, b'3')?;
+    let others = list_of(rt.alloc(), Mode::Allow, b'2')?;
+    let announce = b"/announce?info_hash=33333333333333333333&port=1";
+    let stop = b"/announce?info_hash=33333333333333333333&port=1&event=stopped";
+    let no_port = b"/announce?info_hash=33333333333333333333&port=0";
+    let scrape = b"/scrape?info_hash=33333333333333333333";
+    let rows: [(&str, &AccessList, &[u8], &str); 9] = [
+        ("denied", &denied, announce, "not authorized"),
+        ("not among the allowed", &others, announce, "not authorized"),
+        ("allowed", &allowed, announce, "announce"),
+        ("a stop that is denied", &denied, stop, "not authorized"),
+        ("a stop that is allowed", &allowed, stop, "stop"),
+        ("a scrape isn't judged", &denied, scrape, "scrape"),
+        ("by those allowed neither", &others, scrape, "scrape"),
+        ("port 0 goes first", &denied, no_port, "bad port"),
+        (
+            "no hash goes first",
+            &denied,
+            b"/announce?port=1",
+            "missing info_hash",
+        ),
+    ];
+    for (label, access, target, expected) in rows {
+        let plan = plan_http(rt.alloc(), target, FROM, Some(access), false)?;
+        assert_eq!(rt; outcome(&plan), expected, "{label}");
+    }
+    let all = plan_http(rt.alloc(), b"/scrape", FROM, Some(&denied), true)?;
+    assert_eq!(rt; outcome(&all), "full");
     Ok(())
 }
 
@@ -265,7 +384,7 @@ fn connections_are_judged(rt: HostRuntime) -> Result<(), Fail> {
         ),
     ];
     for (label, bytes, expected) in rows {
-        let plan = plan_connection(rt.alloc(), bytes, FROM, false)?;
+        let plan = plan_connection(rt.alloc(), bytes, FROM, None, false)?;
         assert_eq!(rt; connection_outcome(&plan), expected, "{label}");
     }
     Ok(())
@@ -297,7 +416,7 @@ fn long_heads_are_rejected(rt: HostRuntime) -> Result<(), Fail> {
         if ends {
             bytes.extend_from_slice(b"\r\n\r\n")?;
         }
-        let plan = plan_connection(rt.alloc(), &bytes, FROM, false)?;
+        let plan = plan_connection(rt.alloc(), &bytes, FROM, None, false)?;
         assert_eq!(rt; connection_outcome(&plan), expected, "{label}");
     }
     Ok(())
@@ -427,7 +546,7 @@ fn usual_client_is_answered(rt: HostRuntime) -> Result<(), Fail> {
         &peer_id=-TR4050-abcdefghijkl&port=51413&uploaded=0&downloaded=0&left=0&numwant=80\
         &key=1a2b3c4d&compact=1&supportcrypto=1&event=started HTTP/1.1\r\n\
         Host: tracker.example:6969\r\nAccept: */*\r\nAccept-Encoding: deflate, gzip\r\n\r\n";
-    let plan = plan_connection(rt.alloc(), request, FROM, false)?;
+    let plan = plan_connection(rt.alloc(), request, FROM, None, false)?;
     assert_eq!(rt; connection_outcome(&plan), "announce");
     let body = finish_announce(rt.alloc(), Family::Four, &told(1, 0, None))?;
     let reply = write_reply(rt.alloc(), Code::Ok, body.as_slice())?;

@@ -1,6 +1,6 @@
 //! The plan of a datagram (BEP 15).
 
-ghost use Rattle.std.specs.Prelude.{◌≡◌};
+ghost use Rattle.std.specs.Prelude.{◌≡◌, option_copied};
 ghost use Rattle.std.specs.List.{AllByRecursion};
 ghost use Rattle.ot_base.specs.Address.{family_of};
 ghost use Rattle.ot_base.specs.declared.address.Family.TheVariants.{Four};
@@ -11,6 +11,7 @@ ghost use Rattle.tracker_core.specs.UdpPlan.{IsComplete, announce_call, announce
 ghost use Rattle.tracker_core.specs.UdpPlan.{udp_plan, wanted_peers};
 
 use crate::report::{peers_wanted, report_call};
+use access_list::{AccessList, admits_hash};
 use conn_id::{check, mint};
 use ot_base::{Endpoint, Hashes, Minute, Refusal, Secret};
 use tracker_model::Call;
@@ -33,11 +34,19 @@ pub enum UdpPlan {
 
 /// The plan for a datagram of any bytes that came from an endpoint in a minute. It takes no memory.
 ///
-/// What is wrong is judged in this order: no request at all, the action, the connection id, the
-/// port.
-pub fn plan_udp(bytes: &[u8], from: Endpoint, minute: Minute, secret: &Secret) -> UdpPlan
+/// What is wrong is judged in this order: no request at all, the action, the connection id; and of
+/// an announce or a stop the port, then whether the access list admits the torrent, if there is a
+/// list.
+pub fn plan_udp(
+    bytes: &[u8],
+    from: Endpoint,
+    minute: Minute,
+    secret: &Secret,
+    access: Option<&AccessList>,
+) -> UdpPlan
     requires { family_of from.addr ≡ Four }
-    ensures planned { result ≡ udp_plan secret.now from minute (request_of bytes.now) }
+    ensures planned { result ≡
+        udp_plan secret.now (option_copied access.entry) from minute (request_of bytes.now) }
     ensures formed { AllByRecursion IsWellFormed (calls_of result) }
     ensures complete { IsComplete result }
 {
@@ -54,7 +63,7 @@ pub fn plan_udp(bytes: &[u8], from: Endpoint, minute: Minute, secret: &Secret) -
             transaction,
             why: Refusal::Action,
         },
-        Request::Announce(announce) => plan_announce(&announce, from, minute, secret),
+        Request::Announce(announce) => plan_announce(&announce, from, minute, secret, access),
         Request::Scrape {
             connection,
             transaction,
@@ -75,9 +84,16 @@ pub fn plan_udp(bytes: &[u8], from: Endpoint, minute: Minute, secret: &Secret) -
     }
 }
 
-fn plan_announce(announce: &UdpAnnounce, from: Endpoint, minute: Minute, secret: &Secret) -> UdpPlan
+fn plan_announce(
+    announce: &UdpAnnounce,
+    from: Endpoint,
+    minute: Minute,
+    secret: &Secret,
+    access: Option<&AccessList>,
+) -> UdpPlan
     requires { family_of from.addr ≡ Four }
-    ensures planned { result ≡ announce_plan secret.now from minute announce.now }
+    ensures planned { result ≡
+        announce_plan secret.now (option_copied access.entry) from minute announce.now }
     ensures formed { AllByRecursion IsWellFormed (calls_of result) }
     ensures complete { IsComplete result }
 {
@@ -92,6 +108,12 @@ fn plan_announce(announce: &UdpAnnounce, from: Endpoint, minute: Minute, secret:
         return UdpPlan::Refused {
             transaction,
             why: Refusal::BadPort,
+        };
+    }
+    if !admits_hash(access, &announce.hash) {
+        return UdpPlan::Refused {
+            transaction,
+            why: Refusal::Denied,
         };
     }
     UdpPlan::Announce {

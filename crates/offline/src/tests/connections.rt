@@ -1,18 +1,18 @@
 //! Connections, each as a record of what it sent, with replies worked out by hand.
 
-use super::{ROOM, replay};
-use ot_io::{MemSink, MemSource, Status};
+use super::{USUAL, replayed};
+use ot_io::Status;
 use std::alloc::{AllocError, Global};
 use std::test::Fail;
 
 /// The record of what a connection from an address sent at a second.
-fn line_of(alloc: Global, second: u64, who: &str, sent: &[u8]) -> Result<String, AllocError> {
+pub fn line_of(alloc: Global, second: u64, who: &str, sent: &[u8]) -> Result<String, AllocError> {
     let digits = hex::encode(alloc, sent)?;
     format!(in alloc; "H {second} {who} 5000 {digits}\n")
 }
 
 /// The output line of a reply with this code and body.
-fn reply_of(alloc: Global, code: &str, body: &[u8]) -> Result<String, AllocError> {
+pub fn reply_of(alloc: Global, code: &str, body: &[u8]) -> Result<String, AllocError> {
     let len = body.len();
     let head = format!(in alloc;
         "HTTP/1.1 {code}\r\nContent-Type: text/plain\r\nContent-Length: \
@@ -21,14 +21,6 @@ fn reply_of(alloc: Global, code: &str, body: &[u8]) -> Result<String, AllocError
     let head = hex::encode(alloc, head.as_bytes())?;
     let body = hex::encode(alloc, body)?;
     format!(in alloc; "R {head}{body}\n")
-}
-
-/// What the replay of a trace to an empty tracker ends with and writes.
-fn replayed(rt: &HostRuntime, trace: &str) -> Result<(Status, Vec<u8>), Fail> {
-    let mut input = MemSource::new(trace.as_bytes(), &[], &[]);
-    let mut out = MemSink::with_capacity(rt.alloc(), ROOM, ROOM, &[])?;
-    let (status, _) = replay(rt, &mut input, &mut out)?;
-    Ok((status, out.written().to_vec(rt.alloc())?))
 }
 
 /// Nothing is told but that an announce is refused.
@@ -89,7 +81,7 @@ fn each_query_has_its_one_reply(rt: HostRuntime) -> Result<(), Fail> {
         let sent = format!(in rt.alloc(); "GET /announce{query} HTTP/1.1\r\nHost: t\r\n\r\n")?;
         let trace = line_of(rt.alloc(), 0, "192.0.2.1", sent.as_bytes())?;
         let expected = reply_of(rt.alloc(), "200 OK", body)?;
-        let (status, written) = replayed(&rt, &trace)?;
+        let (status, written) = replayed(&rt, USUAL, &trace)?;
         assert_eq!(rt; status, Status::Done, "{query}");
         assert_eq!(rt; written.as_slice(), expected.as_bytes(), "{query}");
     }
@@ -146,7 +138,7 @@ fn each_head_has_its_one_reply(rt: HostRuntime) -> Result<(), Fail> {
         } else {
             reply_of(rt.alloc(), code, body)?
         };
-        let (status, written) = replayed(&rt, &trace)?;
+        let (status, written) = replayed(&rt, USUAL, &trace)?;
         assert_eq!(rt; status, Status::Done, "{sent}");
         assert_eq!(rt; written.as_slice(), expected.as_bytes(), "{sent}");
     }
@@ -156,7 +148,7 @@ fn each_head_has_its_one_reply(rt: HostRuntime) -> Result<(), Fail> {
         "192.0.2.1",
         b"GET /announce?\xe9 HTTP/1.1\r\n\r\n",
     )?;
-    let (status, written) = replayed(&rt, &raw)?;
+    let (status, written) = replayed(&rt, USUAL, &raw)?;
     assert_eq!(rt; status, Status::Done);
     assert_eq!(rt; written.as_slice(), b"S cut\n".as_slice());
     Ok(())
@@ -185,7 +177,7 @@ fn heads_as_long_as_they_may_be(rt: HostRuntime) -> Result<(), Fail> {
         sent.push_str("\r\n")?;
         sent.push_str(end)?;
         let trace = line_of(rt.alloc(), 0, "192.0.2.1", sent.as_bytes())?;
-        let (status, written) = replayed(&rt, &trace)?;
+        let (status, written) = replayed(&rt, USUAL, &trace)?;
         assert_eq!(rt; status, Status::Done, "{fields} {bytes}");
         assert_eq!(rt; written.as_slice(), expected.as_bytes(), "{fields} {bytes}");
     }
@@ -237,7 +229,8 @@ fn peers_meet_over_http(rt: HostRuntime) -> Result<(), Fail> {
         (
             "192.0.2.3",
             "/scrape?info_hash={f}&info_hash={1}&x&info_hash={f}&info_hash={0}",
-            b"d5:filesd20:\x11\x11\x11\x11\x11\x11\x11\x11\x11\x11\x11\x11\x11\x11\x11\x11\x11\x11\x11\x11\
+            b"d5:filesd\
+            20:\x11\x11\x11\x11\x11\x11\x11\x11\x11\x11\x11\x11\x11\x11\x11\x11\x11\x11\x11\x11\
             d8:completei1e10:downloadedi1e10:incompletei0ee\
             20:\xff\xff\xff\xff\xff\xff\xff\xff\xff\xff\xff\xff\xff\xff\xff\xff\xff\xff\xff\xff\
             d8:completei0e10:downloadedi0e10:incompletei1eeee"
@@ -259,7 +252,7 @@ fn peers_meet_over_http(rt: HostRuntime) -> Result<(), Fail> {
         trace.push_str(&line)?;
         expected.push_str(&reply)?;
     }
-    let (status, written) = replayed(&rt, &trace)?;
+    let (status, written) = replayed(&rt, USUAL, &trace)?;
     assert_eq!(rt; status, Status::Done);
     assert_eq!(rt; written.as_slice(), expected.as_bytes());
     Ok(())
@@ -273,7 +266,7 @@ fn the_cleaner_tells_what_is_left(rt: HostRuntime) -> Result<(), Fail> {
     let told = reply_of(rt.alloc(), "200 OK", LEECHER)?;
     let trace = format!(in rt.alloc(); "C 0\n{announce}C 59\nC 2699\nC 2700\nC 00\n")?;
     let expected = format!(in rt.alloc(); "C 0\n{told}C 1\nC 1\nC 0\nC 0\n")?;
-    let (status, written) = replayed(&rt, &trace)?;
+    let (status, written) = replayed(&rt, USUAL, &trace)?;
     assert_eq!(rt; status, Status::Done);
     assert_eq!(rt; written.as_slice(), expected.as_bytes());
     Ok(())

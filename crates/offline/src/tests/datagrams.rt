@@ -1,23 +1,25 @@
 //! Datagrams over UDP, each as a record built from its fields, with replies worked out by hand.
 
-use super::{ROOM, replay};
+ghost use Rattle.offline.specs.Command.{IsOffered};
+
+use super::{ROOM, USUAL, replay, replayed};
 use conn_id::mint;
 use ot_base::{Addr, Minute, Secret};
-use ot_io::{MemSink, MemSource, Status};
+use ot_io::{MemSink, MemSource, ReplaySettings, Status};
 use std::alloc::{AllocError, Global};
 use std::test::Fail;
 
 /// Two info hashes and two peers, which listen at port 6881.
-const A: u8 = 0x11;
+pub const A: u8 = 0x11;
 
-const B: u8 = 0xff;
+pub const B: u8 = 0xff;
 
-const P: [u8; 4] = [192, 0, 2, 1];
+pub const P: [u8; 4] = [192, 0, 2, 1];
 
-const Q: [u8; 4] = [192, 0, 2, 2];
+pub const Q: [u8; 4] = [192, 0, 2, 2];
 
 /// The events of an announce.
-const NOTHING: u32 = 0;
+pub const NOTHING: u32 = 0;
 
 const COMPLETED: u32 = 1;
 
@@ -27,7 +29,7 @@ const STOPPED: u32 = 3;
 
 /// One record: who sends what at which second, with an id of the same minute.
 #[derive(Clone, Copy)]
-struct Sent {
+pub struct Sent {
     second: u64,
     who: [u8; 4],
     what: What,
@@ -41,7 +43,7 @@ enum What {
     Scrape { hashes: [u8; 4], count: usize },
 }
 
-fn announce(second: u64, who: [u8; 4], hash: u8, left: u64, event: u32) -> Sent {
+pub fn announce(second: u64, who: [u8; 4], hash: u8, left: u64, event: u32) -> Sent {
     let what = What::Announce { hash, left, event };
     Sent { second, who, what }
 }
@@ -55,7 +57,7 @@ fn scrape(second: u64, who: [u8; 4], hash: u8) -> Sent {
 }
 
 /// The line of the trace for a record.
-fn line_of(alloc: Global, sent: &Sent) -> Result<String, AllocError> {
+pub fn line_of(alloc: Global, sent: &Sent) -> Result<String, AllocError> {
     let minute = Minute::of_seconds(sent.second);
     let id = mint(&Secret([0; 20]), Addr::V4(sent.who), minute);
     let [a, b, c, d] = sent.who;
@@ -97,18 +99,33 @@ fn push_fields(alloc: Global, line: &mut String, left: u64, event: u32) -> Resul
     line.push_str(&fields)
 }
 
-/// What a replay of the records writes.
-fn replies_to(rt: &HostRuntime, records: &[Sent]) -> Result<Vec<u8>, Fail> {
-    let mut trace = String::new(rt.alloc());
+/// The lines of a trace of these records.
+pub fn trace_of(alloc: Global, records: &[Sent]) -> Result<String, AllocError> {
+    let mut trace = String::new(alloc);
     for sent in records {
-        trace.push_str(&line_of(rt.alloc(), sent)?)?;
+        trace.push_str(&line_of(alloc, sent)?)?;
     }
-    let mut input = MemSource::new(trace.as_bytes(), &[], &[]);
-    let mut out = MemSink::with_capacity(rt.alloc(), ROOM, ROOM, &[])?;
-    match replay(rt, &mut input, &mut out)? {
-        (Status::Done, _) => Ok(out.written().to_vec(rt.alloc())?),
-        (_, told) => Ok(told),
+    Ok(trace)
+}
+
+/// What a replay of the records by these settings writes, or nothing where it doesn't end done.
+pub fn replies_by(
+    rt: &HostRuntime,
+    settings: ReplaySettings,
+    records: &[Sent],
+) -> Result<Vec<u8>, Fail>
+    requires { IsOffered settings }
+{
+    let trace = trace_of(rt.alloc(), records)?;
+    match replayed(rt, settings, &trace)? {
+        (Status::Done, written) => Ok(written),
+        (_, _) => Ok(Vec::new(rt.alloc())),
     }
+}
+
+/// The same by the usual settings.
+fn replies_to(rt: &HostRuntime, records: &[Sent]) -> Result<Vec<u8>, Fail> {
+    replies_by(rt, USUAL, records)
 }
 
 #[test]
@@ -245,7 +262,8 @@ R 0000000212345678000000010000000000000000
         replies.as_slice(),
         b"R 0000000112345678000007080000000000000001
 R 0000000112345678000007080000000100000000
-R 0000000212345678000000000000000000000001000000010000000000000000000000000000000000000000000000000000000000000001
+R 0000000212345678\
+000000000000000000000001000000010000000000000000000000000000000000000000000000000000000000000001
 "
             .as_slice(),
         "a scrape of several, in order and repeats too"
@@ -275,17 +293,22 @@ fn what_is_no_request_and_what_is_refused(rt: HostRuntime) -> Result<(), Fail> {
         ),
         (
             "an announce of 97 bytes",
-            "U 0 192.0.2.1 5000 3a09986f9ddc6775000000011234567811111111111111111111111111111111111111110000000000000000000000000000000000000000000000000000000000000000000000000000000000000000000000020000000000000000ffffffff1a",
+            "U 0 192.0.2.1 5000 3a09986f9ddc67750000000112345678\
+            11111111111111111111111111111111111111110000000000000000000000000000000000000000\
+            000000000000000000000000000000000000000000000000000000020000000000000000ffffffff\
+            1a",
             "S announce",
         ),
         (
             "a scrape of 35 bytes",
-            "U 0 192.0.2.1 5000 3a09986f9ddc6775000000021234567811111111111111111111111111111111111111",
+            "U 0 192.0.2.1 5000 3a09986f9ddc67750000000212345678\
+            11111111111111111111111111111111111111",
             "S scrape",
         ),
         (
             "a scrape of one hash and 19 bytes more",
-            "U 0 192.0.2.1 5000 3a09986f9ddc67750000000212345678111111111111111111111111111111111111111111111111111111111111111111111111111111",
+            "U 0 192.0.2.1 5000 3a09986f9ddc67750000000212345678\
+            111111111111111111111111111111111111111111111111111111111111111111111111111111",
             "R 0000000212345678000000000000000000000000",
         ),
         (
@@ -295,37 +318,52 @@ fn what_is_no_request_and_what_is_refused(rt: HostRuntime) -> Result<(), Fail> {
         ),
         (
             "a scrape with another's id",
-            "U 0 192.0.2.1 5000 c56531a8350aa48d00000002123456781111111111111111111111111111111111111111",
+            "U 0 192.0.2.1 5000 c56531a8350aa48d0000000212345678\
+            1111111111111111111111111111111111111111",
             "R 000000031234567862616420636f6e6e656374696f6e206964",
         ),
         (
             "an id of minute 0 at second 179",
-            "U 179 192.0.2.1 5000 3a09986f9ddc677500000002123456781111111111111111111111111111111111111111",
+            "U 179 192.0.2.1 5000 3a09986f9ddc67750000000212345678\
+            1111111111111111111111111111111111111111",
             "R 0000000212345678000000000000000000000000",
         ),
         (
             "an id of minute 0 at second 180",
-            "U 180 192.0.2.1 5000 3a09986f9ddc677500000002123456781111111111111111111111111111111111111111",
+            "U 180 192.0.2.1 5000 3a09986f9ddc67750000000212345678\
+            1111111111111111111111111111111111111111",
             "R 000000031234567862616420636f6e6e656374696f6e206964",
         ),
         (
             "port 0",
-            "U 0 192.0.2.1 5000 3a09986f9ddc6775000000011234567811111111111111111111111111111111111111110000000000000000000000000000000000000000000000000000000000000000000000000000000000000000000000020000000000000000ffffffff0000",
+            "U 0 192.0.2.1 5000 3a09986f9ddc67750000000112345678\
+            11111111111111111111111111111111111111110000000000000000000000000000000000000000\
+            000000000000000000000000000000000000000000000000000000020000000000000000ffffffff\
+            0000",
             "R 000000031234567862616420706f7274",
         ),
         (
             "a stop with port 0 and another's id",
-            "U 0 192.0.2.1 5000 c56531a8350aa48d000000011234567811111111111111111111111111111111111111110000000000000000000000000000000000000000000000000000000000000000000000000000000000000000000000030000000000000000ffffffff0000",
+            "U 0 192.0.2.1 5000 c56531a8350aa48d0000000112345678\
+            11111111111111111111111111111111111111110000000000000000000000000000000000000000\
+            000000000000000000000000000000000000000000000000000000030000000000000000ffffffff\
+            0000",
             "R 000000031234567862616420636f6e6e656374696f6e206964",
         ),
         (
             "an announce with 22 bytes more",
-            "U 0 192.0.2.1 5000 3a09986f9ddc6775000000011234567811111111111111111111111111111111111111110000000000000000000000000000000000000000000000000000000000000000000000000000000000000000000000020000000000000000ffffffff1ae100000000000000000000000000000000000000000000",
+            "U 0 192.0.2.1 5000 3a09986f9ddc67750000000112345678\
+            11111111111111111111111111111111111111110000000000000000000000000000000000000000\
+            000000000000000000000000000000000000000000000000000000020000000000000000ffffffff\
+            1ae100000000000000000000000000000000000000000000",
             "R 0000000112345678000007080000000000000001",
         ),
         (
             "an announce with event 9",
-            "U 0 192.0.2.1 5000 3a09986f9ddc6775000000011234567811111111111111111111111111111111111111110000000000000000000000000000000000000000000000000000000000000000000000000000000000000000000000090000000000000000ffffffff1ae1",
+            "U 0 192.0.2.1 5000 3a09986f9ddc67750000000112345678\
+            11111111111111111111111111111111111111110000000000000000000000000000000000000000\
+            000000000000000000000000000000000000000000000000000000090000000000000000ffffffff\
+            1ae1",
             "R 0000000112345678000007080000000000000001",
         ),
     ] {
@@ -342,7 +380,23 @@ fn what_is_no_request_and_what_is_refused(rt: HostRuntime) -> Result<(), Fail> {
     Ok(())
 }
 
-/// As many peers are told as are wanted, up to 200, and as there are others.
+/// How many of the peers from 10.0.1.0 on, so many of them, stand among those that are told, in
+/// twelve digits each.
+fn count_told(alloc: Global, told: &[u8], others: u8) -> Result<usize, AllocError> {
+    let mut count = 0usize;
+    for n in 0..others {
+        let peer = format!(in alloc; "0a0001{n:02x}1ae1")?;
+        for group in told.chunks_exact(12) {
+            if group == peer.as_bytes() {
+                count = count.saturating_add(1);
+            }
+        }
+    }
+    Ok(count)
+}
+
+/// As many peers are told as are wanted, up to 200, and as there are others. They are different
+/// ones of them.
 #[test]
 fn as_many_peers_as_are_wanted(rt: HostRuntime) -> Result<(), Fail> {
     for (others, want, told) in [
@@ -355,32 +409,25 @@ fn as_many_peers_as_are_wanted(rt: HostRuntime) -> Result<(), Fail> {
         (3, "00000002", 2),
     ] {
         let mut trace = String::new(rt.alloc());
-        let mut reply = format!(in rt.alloc(); "R 000000011234567800000708{others:08x}00000001")?;
         for n in 0..others {
             trace.push_str(&line_of(rt.alloc(), &announce(0, [10, 0, 1, n], A, 5, NOTHING))?)?;
-            if n < told {
-                let peer = format!(in rt.alloc(); "0a0001{n:02x}1ae1")?;
-                reply.push_str(&peer)?;
-            }
         }
         let asker = line_of(rt.alloc(), &announce(0, P, A, 0, NOTHING))?;
         trace.push_str(asker.strip_suffix("ffffffff1ae1\n").ok_or("no want")?)?;
         trace.push_str(want)?;
         trace.push_str("1ae1\n")?;
-        let mut input = MemSource::new(trace.as_bytes(), &[], &[]);
-        let mut out = MemSink::with_capacity(rt.alloc(), ROOM, ROOM, &[])?;
-        let (status, _) = replay(&rt, &mut input, &mut out)?;
+        let (status, written) = replayed(&rt, USUAL, &trace)?;
         assert_eq!(rt; status, Status::Done);
-        let last = out
-            .written()
+        let last = written
             .trim_ascii_end()
             .rsplit(|byte| *byte == b'\n')
-            .next();
-        assert_eq!(rt;
-            last,
-            Some(reply.as_bytes()),
-            "{others} others, want {want}"
-        );
+            .next()
+            .ok_or("no line")?;
+        let head = format!(in rt.alloc(); "R 000000011234567800000708{others:08x}00000001")?;
+        let peers = last.strip_prefix(head.as_bytes()).ok_or("no head")?;
+        assert_eq!(rt; peers.len(), 12 * told, "{others} others, want {want}");
+        let count = count_told(rt.alloc(), peers, others)?;
+        assert_eq!(rt; count, told, "{others} others, want {want}");
     }
     Ok(())
 }

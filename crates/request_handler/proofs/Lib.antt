@@ -1,0 +1,4 @@
+pub mod Announcing
+pub mod EachBucket
+pub mod Made
+pub mod Scraping

@@ -1,0 +1,4 @@
+pub mod Cleaning
+pub mod Connection
+pub mod Datagram
+pub mod Making

@@ -1,0 +1,15 @@
+//! What is done for a request: the calls of its plan are made on a tracker's buckets, and their
+//! answers are put into the reply. It is the same for every tracker, on one thread or on several.
+#![tactic(auto)]
+
+pub mod cleaning;
+pub mod connection;
+pub mod datagram;
+pub mod full;
+#[cfg(test)]
+mod tests;
+
+pub use cleaning::clean_all;
+pub use connection::serve;
+pub use datagram::{Outcome, carry_out};
+pub use full::{bucket_count, full_part};
