@@ -1,0 +1,8 @@
+mod PlaceLemmas
+mod SettingsLemmas
+mod TurnLemmas
+mod PassLemmas
+mod SplitLemmas
+mod PassingLemmas
+mod JoinLemmas
+mod CloseLemmas
