@@ -84,8 +84,8 @@ impl<T: Copy> AgeRing<T> {
         self.lists.nodes.spare()
     }
 
-    /// Makes room for an item at least. Where there is none, the room grows to a quarter of the items
-    /// and four. Only then it may want memory, and want of memory changes nothing.
+    /// Makes room for an item at least. Where there is none, the room grows to a quarter of the
+    /// items and four. Only then it may want memory, and want of memory changes nothing.
     pub fn reserve(&mut self) -> Result<(), AllocError>
         requires { length self.old.pairs < MOST_NODES }
         ensures same { self.new ≡ record self.old { spare = self.new.spare } }
@@ -167,9 +167,10 @@ impl<T: Copy> AgeRing<T> {
         item
     }
 
-    /// A place of an item that `advance` to a time would drop, if there is one. It looks at one list
-    /// for each step of time since the ring's, and at no more lists than there are ages: an owner that
-    /// takes out such items itself goes from one time to the next.
+    /// A place of an item that `advance` to a time would drop, if there is one. It looks at one
+    /// list for each step of time since the ring's, and at no more lists than there are ages, and
+    /// at none where there is no item. An owner that takes out such items itself goes from one
+    /// time to the next, each by a `pass` where none is due any more.
     pub fn next_due(&self, time: u32) -> Option<u32>
         requires { self.now.time ≤ time }
         ensures within { IfSome result (λ i. i < length self.now.pairs) }
@@ -177,6 +178,9 @@ impl<T: Copy> AgeRing<T> {
             slice_index (stamps_of self.now.pairs) i + self.now.ages ≤ time) }
         ensures none { IfNone result (All (IsYoung self.now.ages time) self.now.pairs) }
     {
+        if self.is_empty() {
+            return None;
+        }
         let start = self.time;
         for k in 0..self.due_lists(time) {
             let first = self.first_due(start + k + 1);
@@ -187,9 +191,9 @@ impl<T: Copy> AgeRing<T> {
         None
     }
 
-    /// Moves the time on, and drops exactly the items whose stamps are then as many ages below it or
-    /// more. Gives their number. The order stays where there is none. It looks at one list for each
-    /// step of time, and at no more lists than there are ages.
+    /// Moves the time on, and drops exactly the items whose stamps are then as many ages below it
+    /// or more. Gives their number. The order stays where there is none. It looks at one list for
+    /// each step of time, and at no more lists than there are ages.
     pub fn advance<L: Ledger>(&mut self, time: u32, steps: &mut Steps<L>) -> u32
         requires { self.old.time ≤ time }
         ensures drops { Drops self.old.ages time self.old.pairs self.new.pairs result }
@@ -208,6 +212,15 @@ impl<T: Copy> AgeRing<T> {
         }
         self.time = time;
         dropped
+    }
+
+    /// Moves the time on where no item is due then. It looks at no list.
+    pub fn pass(&mut self, time: u32)
+        requires later { self.old.time ≤ time }
+        requires young { All (IsYoung self.old.ages time) self.old.pairs }
+        ensures { self.new ≡ record self.old { time = time } }
+    {
+        self.time = time;
     }
 
     /// How many lists may have items that are due at a time: one for each step of time, or all.

@@ -5,8 +5,8 @@ ghost use Rattle.std.specs.Prelude.{◌≡◌, ◌+◌, ◌<◌};
 use std::marker::Model;
 use std::sync::ledger::{Blank, Book, Ledger, Share};
 
-/// How many steps were taken: contracts see a number that only `tick` changes. It takes no bytes and
-/// no time.
+/// How many steps were taken: contracts see a number that only `tick` changes. It takes no bytes
+/// and no time.
 #[derive(Drop)]
 pub struct Steps<L: Ledger> {
     book: Book<L>,

@@ -78,8 +78,8 @@ impl<T: Copy> NodeTable<T> {
         (self.nodes.capacity() - self.nodes.len()) as u32
     }
 
-    /// Makes room for a node at least. Where there is none, the room grows to a quarter of the nodes
-    /// and four. Only then it may want memory, and want of memory changes nothing.
+    /// Makes room for a node at least. Where there is none, the room grows to a quarter of the
+    /// nodes and four. Only then it may want memory, and want of memory changes nothing.
     pub fn reserve(&mut self) -> Result<(), AllocError>
         requires { length self.old.nodes < MOST_NODES }
         ensures nodes { self.new.nodes ≡ self.old.nodes }

@@ -14,7 +14,7 @@ use Rattle.ot_base.proofs.SameLemmas.{same_endpoint_decides}
 use Rattle.std.proofs.lemmas.Map.Keys.{IsDistinct-from_apart}
 use Rattle.ot_base.specs.declared.address.Endpoint.{Endpoint}
 use Rattle.ot_base.specs.declared.peer.Held.{Held}
-use Rattle.age_ring.specs.Ring.{Drops, Ring, IsYoung, items_of, stamps_of}
+use Rattle.age_ring.specs.Ring.{Ring, IsYoung, items_of, stamps_of}
 use Rattle.swarm.specs.Index.{IsIndexed}
 use Rattle.swarm.specs.Members.{AreOrderly, Expires, HeldAt, KeepsClock, held_by, peers_by}
 use Rattle.swarm.specs.Peers.{endpoints_of, is_young, one_if, seed_one}
@@ -115,11 +115,6 @@ dropping_one time ring0 ring new look0 look look' seeds steps0 steps steps' at p
       few = omega (arith, it.few, less, one_at_most peer.seed);
       steps_counted = omega (arith, it.steps_counted, less, more);
     }
-
--- where the ring is the same, none was dropped
-pub none_dropped : (ages time : ℕ) (old new : List (Endpoint × ℕ)) (count : ℕ) → Drops ages time old new count → new ≡ old → count ≡ 0
-none_dropped ages time old new count drops same =
-    omega (arith, drops.counts, length_permutation old (drops.gone ++ new) drops.moves, length-append drops.gone new, ap length same)
 
 -- what passing the minutes has kept so far
 pub record IsPassing (start minute : ℕ) (old now : HeldAt) (steps0 steps : ℕ) : Type 0 where

@@ -192,11 +192,23 @@ impl Members {
             steps.old + 32 * length self.old.peers }
     {
         let start = self.ring.time();
-        for minute in 0..(time - start).min(PEER_AGES) {
+        for minute in 0..self.minutes_to(time) {
             self.pass_to(start + minute + 1, steps);
         }
         self.pass_to(time, steps);
         self.release();
+    }
+
+    /// How many minutes it goes through one by one on the way to a time, since peers may go at
+    /// each.
+    fn minutes_to(&self, time: u32) -> u32
+        requires { self.now.time ≤ time }
+        ensures { self.now.time + result ≤ time }
+    {
+        if self.ring.is_empty() {
+            return 0;
+        }
+        (time - self.ring.time()).min(PEER_AGES)
     }
 
     /// The same, at the cost of a look at each minute for each peer that goes.
@@ -209,7 +221,7 @@ impl Members {
             steps.old + 32 * length self.old.peers }
     {
         self.seeds -= drop_due(&mut self.ring, &mut self.index, time, steps);
-        self.ring.advance(time, steps);
+        self.ring.pass(time);
     }
 
     /// Gives memory back where a third of the room or more is spare: at least a sixth of the peers

@@ -16,5 +16,5 @@ pub returns-clause-expires : goal.returns-clause-expires
 returns-clause-expires g c =
     let l = c.loop-minute in
     let began = c.time-start.ensures.time ∙ ap (λ (v : HeldAt). v.time) c.self.view_is in
-    let within : c.time-start.result + l.minute ≤ c.args.time = omega (arith, began, l.auto.minute-end, c.min-minute-end.ensures, c.requires) in
+    let within : c.time-start.result + l.minute ≤ c.args.time = omega (arith, began, l.auto.minute-end, c.minutes_to-minute-end.ensures, c.requires) in
     rw c.release.ensures (expires_later (c.time-start.result + l.minute) c.args.time c.args.self.now.peers l.self.peers c.pass_to-2.new.self.peers within l.invariant.expires c.pass_to-2.ensures.expires)
