@@ -3,9 +3,12 @@ pub mod Connection
 pub mod Content
 pub mod Counts
 pub mod Demand
+pub mod Lending
 pub mod Lengths
 pub mod Memory
 pub mod Message
 pub mod Pieces
 pub mod Status
+pub mod Tales
+pub mod Traffic
 pub mod Writes

@@ -5,12 +5,15 @@
 //! A connection is a source and a sink with one count of faults for both.
 #![tactic(auto)]
 
+pub mod clock;
 pub mod conn;
 mod faults;
+pub mod listener;
 pub mod mem_conn;
 pub mod mem_sink;
 pub mod mem_source;
 pub mod message;
+pub mod outside;
 pub mod settings;
 pub mod sink;
 pub mod source;
@@ -18,14 +21,19 @@ pub mod status;
 pub mod std_streams;
 #[cfg(test)]
 mod tests;
+pub mod wire;
 
+pub use clock::Clock;
 pub use conn::Conn;
+pub use listener::{Accept, Listener};
 pub use mem_conn::{ConnScript, MemConn};
 pub use mem_sink::MemSink;
 pub use mem_source::MemSource;
 pub use message::report;
+pub use outside::{Made, Outside};
 pub use settings::ReplaySettings;
 pub use sink::{Sink, Wrote, send_all};
 pub use source::{Piece, Source};
 pub use status::{LineFault, Status};
 pub use std_streams::{StdSink, StdSource};
+pub use wire::{DATAGRAM_LEN, Recv, Sent, Wire};
