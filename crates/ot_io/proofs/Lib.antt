@@ -1,3 +1,4 @@
 pub mod Asides
+pub mod Lists
 pub mod Retries
 pub mod Runs

@@ -3,9 +3,16 @@ pub mod Connection
 pub mod Content
 pub mod Counts
 pub mod Demand
+pub mod Fresh
+pub mod FreshEnds
+pub mod Lender
 pub mod Lending
 pub mod Lengths
 pub mod Memory
+pub mod MemoryClock
+pub mod MemoryListener
+pub mod MemoryOutside
+pub mod MemoryWire
 pub mod Message
 pub mod Pieces
 pub mod Status
