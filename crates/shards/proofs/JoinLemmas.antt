@@ -5,6 +5,7 @@ use Rattle.std.proofs.lemmas.List.{get_or-map, get_or-set_other, get_or-set_same
 use Rattle.tracker_model.specs.Grows.{history_at}
 use Rattle.tracker_model.specs.declared.entry.Entry.{Entry}
 use Rattle.turn_lock.proofs.HistoryLemmas.{goes_nowhere}
+use Rattle.turn_lock.specs.Histories.{AllBelow}
 use Rattle.turn_lock.specs.Shape.{TurnShape}
 use Rattle.shards.specs.Histories.{IsJoined, IsJoinedTurn}
 use Rattle.shards.specs.Shape.{IsAlike, IsPass, ShardsShape, joined_of}
@@ -132,6 +133,7 @@ module _ (shards others_shards : ShardsShape) (caller free out number others_fre
         joined_are = numbers_at i d within;
         out_is = omega arith;
         rests = ap (λ (t : TurnShape). t.holds) is.turn ∙ mine.rests;
+        not_free = λ first. subst (λ n. AllBelow n (get_or now i d).seen) (ap (λ (t : TurnShape). t.free) is.turn ∙ mine.free_is) (is.not_free (ap (λ (t : TurnShape). t.caller) is.turn ∙ mine.caller_is ∙ first));
       } in
       let d = some_turn turns some in
       let locks : map lock_of now ≡ map lock_of turns = same_lists _ _ (length-map now lock_of ∙ count ∙ sym (length-map turns lock_of)) (λ i e below.

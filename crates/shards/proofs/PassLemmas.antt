@@ -8,7 +8,7 @@ use Rattle.tracker_model.specs.Grows.{Step, history_at}
 use Rattle.tracker_model.specs.Legal.{IsLegalHistory}
 use Rattle.tracker_model.specs.Settings.{Settings}
 use Rattle.tracker_model.specs.declared.entry.Entry.{Entry}
-use Rattle.turn_lock.specs.Histories.{GoesOn, NoneBy}
+use Rattle.turn_lock.specs.Histories.{AllBelow, GoesOn, NoneBy}
 use Rattle.turn_lock.specs.Shape.{LockShape, TurnShape, IsSpare, first_turn, new_turn}
 use Rattle.shards.specs.Histories.{IsJoinedTurn}
 use Rattle.shards.specs.Shape.{AreShards, IsAlike, IsLockFor, IsPass, ShardsShape, joined_of}
@@ -17,12 +17,19 @@ use Rattle.shards.proofs.TurnLemmas.{lock_of, seen_of, locks_hold, locks_stay, r
 -- ---- a turn that has seen more
 
 module _ (turns : List TurnShape) (i : ℕ) (turn new : TurnShape) (within : i < length turns) (read : turn ≡ get_or turns i turn) where
-  pub pass_with : (shards : ShardsShape) (caller free out : ℕ) → IsPass shards caller free out turns → new ≡ record turn { seen = new.seen } → IsPass shards caller free out (set turns i new)
-  pass_with shards caller free out pass same =
+  pub pass_with : (shards : ShardsShape) (caller free out : ℕ) → IsPass shards caller free out turns → new ≡ record turn { seen = new.seen } → (caller ≡ 0 → AllBelow free new.seen) → IsPass shards caller free out (set turns i new)
+  pass_with shards caller free out pass same below =
       let joined = joined_set turns i turn new read (ap (λ (t : TurnShape). t.joined) same) in
       let P : TurnShape → Type 0 = IsAlike caller free (joined_of turns) out in
       let old = read_all P turns i turn within read pass.alike in
-      let mine : P new = subst P (sym same) (record { caller_is = old.caller_is; free_is = old.free_is; joined_are = old.joined_are; out_is = old.out_is; rests = old.rests }) in
+      let mine : P new = record {
+          caller_is = ap (λ (t : TurnShape). t.caller) same ∙ old.caller_is;
+          free_is = ap (λ (t : TurnShape). t.free) same ∙ old.free_is;
+          joined_are = ap (λ (t : TurnShape). t.joined) same ∙ old.joined_are;
+          out_is = ap (λ (t : TurnShape). t.out) same ∙ old.out_is;
+          rests = ap (λ (t : TurnShape). t.holds) same ∙ old.rests;
+          not_free = below;
+      } in
       record {
         known = pass.known;
         locks_are = map-set_same lock_of turns i new turn (ap lock_of same ∙ ap lock_of read) ∙ pass.locks_are;
@@ -62,6 +69,16 @@ given_back turn kept new x rests taken given =
     ∙ ap (λ (t : TurnShape). record t { seen = kept.seen ++ x ∷ []; holds = false }) taken
     ∙ (λ k. record turn { seen = sym (ap seen_of given) k; holds = sym rests k })
 
+-- what is below a number is below the next one
+below_more : (n : ℕ) (history : List Entry) → AllBelow n history → AllBelow (n + 1) history
+below_more n [] below = tt
+below_more n (x ∷ history) below = ((let first = below.0 in omega arith), below_more n history below.1)
+
+-- what caller 0's pass has seen is of numbers that aren't free
+pub seen_below : (shards : ShardsShape) (caller free out : ℕ) (turns : List TurnShape) → IsPass shards caller free out turns → caller ≡ 0 → All (AllBelow free) (map seen_of turns)
+seen_below shards caller free out turns pass first =
+    All-map (AllBelow free) seen_of turns (All-weaker (IsAlike caller free (joined_of turns) out) (λ (turn : TurnShape). AllBelow free turn.seen) (λ turn alike. alike.not_free first) turns pass.alike)
+
 -- ---- the first pass
 
 pub first_locks : (locks : List LockShape) → map lock_of (map first_turn locks) ≡ locks
@@ -76,7 +93,7 @@ pub first_is_pass : (shards : ShardsShape) → AreShards shards → IsPass shard
 first_is_pass shards known = record {
   known = known;
   locks_are = first_locks shards.locks;
-  alike = subst (λ numbers. All (IsAlike 0 1 numbers 0) (map first_turn shards.locks)) (sym (none_joined first_turn (λ _. refl) shards.locks)) (All-map (IsAlike 0 1 [] 0) first_turn shards.locks (λ k d within. record { caller_is = refl; free_is = refl; joined_are = refl; out_is = refl; rests = refl }));
+  alike = subst (λ numbers. All (IsAlike 0 1 numbers 0) (map first_turn shards.locks)) (sym (none_joined first_turn (λ _. refl) shards.locks)) (All-map (IsAlike 0 1 [] 0) first_turn shards.locks (λ k d within. record { caller_is = refl; free_is = refl; joined_are = refl; out_is = refl; rests = refl; not_free = λ first. tt }));
   few_out = omega arith;
   free_fits = known.some_callers;
 }
@@ -112,7 +129,7 @@ module _ (shards : ShardsShape) (caller free out : ℕ) (turns : List TurnShape)
         let P : TurnShape → Type 0 = IsAlike caller (free + 1) (joined_of turns) (out + 1) in
         let all : All (λ turn. P (kept_turn free turn)) turns = λ k d within.
         let alike = pass.alike k d within in
-        record { caller_is = alike.caller_is; free_is = refl; joined_are = alike.joined_are; out_is = ap (λ n. n + 1) alike.out_is; rests = alike.rests } in
+        record { caller_is = alike.caller_is; free_is = refl; joined_are = alike.joined_are; out_is = ap (λ n. n + 1) alike.out_is; rests = alike.rests; not_free = λ first. below_more free (get_or turns k d).seen (alike.not_free first) } in
         record {
           known = pass.known;
           locks_are = locks_stay (kept_turn free) (λ _. refl) turns ∙ pass.locks_are;
@@ -126,7 +143,7 @@ module _ (shards : ShardsShape) (caller free out : ℕ) (turns : List TurnShape)
         let P : TurnShape → Type 0 = IsAlike free shards.callers [] 0 in
         let all : All (λ turn. P (split_turn free turn)) turns = λ k d within.
         let lock = locks_known k d within in
-        record { caller_is = refl; free_is = lock.callers_are; joined_are = refl; out_is = refl; rests = refl } in
+        record { caller_is = refl; free_is = lock.callers_are; joined_are = refl; out_is = refl; rests = refl; not_free = λ first. absurd (let few = pass.few_out in omega arith) } in
         record {
           known = pass.known;
           locks_are = locks_stay (split_turn free) (λ _. refl) turns ∙ pass.locks_are;

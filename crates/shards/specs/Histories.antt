@@ -1,7 +1,7 @@
 -- How the histories that a pass has seen go on.
 use Rattle.std.specs.Prelude.{◌≡◌, ◌⊎◌, ◌+◌, ℕ, List, [], ◌∷◌}
 use Rattle.tracker_model.specs.declared.entry.Entry.{Entry}
-use Rattle.turn_lock.specs.Histories.{GoesOn}
+use Rattle.turn_lock.specs.Histories.{AllBelow, GoesOn}
 use Rattle.turn_lock.specs.Shape.{TurnShape}
 
 -- a bucket's history once a pass was joined: the longer of what the two had seen, in which each of
@@ -20,4 +20,5 @@ pub record IsJoinedTurn (old other new : TurnShape) : Type 0 where
     out = new.out;
   }
   pub one_less : old.out ≡ new.out + 1
+  pub not_free : new.caller ≡ 0 → AllBelow new.free new.seen
   pub seen : IsJoined (old.caller ∷ old.joined) other.caller old.seen other.seen new.seen

@@ -3,6 +3,7 @@ use Rattle.std.specs.Prelude.{◌≡◌, ◌+◌, ◌<◌, ◌≤◌, ◌^◌, �
 use Rattle.std.specs.List.{range_with_len}
 use Rattle.tracker_model.specs.Settings.{Settings}
 use Rattle.tracker_model.specs.declared.entry.Entry.{Entry}
+use Rattle.turn_lock.specs.Histories.{AllBelow}
 use Rattle.turn_lock.specs.Shape.{LockShape, TurnShape}
 
 pub record ShardsShape : Type 0 where
@@ -28,6 +29,11 @@ pub record PassShape : Type 0 where
   pub out : ℕ
   -- the history that it has seen of each bucket, in order, with the oldest entry first
   pub seen : List (List Entry)
+
+-- A pass's free numbers are the shards'. All that caller 0's has seen is of numbers that aren't free
+pub record KnowsNumbers (pass : PassShape) : Type 0 where
+  pub free_fits : pass.free ≤ pass.shards.callers
+  pub not_free : pass.caller ≡ 0 → All (AllBelow pass.free) pass.seen
 
 -- a pass that nothing was joined to, with no number free
 abbrev pub new_pass : ShardsShape → (caller : ℕ) → (seen : List (List Entry)) → PassShape
@@ -73,7 +79,8 @@ abbrev pub joined_of : List TurnShape → List ℕ
 joined_of [] = []
 joined_of (turn ∷ turns) = turn.joined
 
--- a turn that nobody waits for or has, with these numbers
+-- a turn that nobody waits for or has, with these numbers. If it is caller 0's, all that it has seen
+-- is of numbers that aren't free
 pub record IsAlike (caller free : ℕ) (joined : List ℕ) (out : ℕ) (turn : TurnShape)
     : Type 0 where
   pub caller_is : turn.caller ≡ caller
@@ -81,6 +88,7 @@ pub record IsAlike (caller free : ℕ) (joined : List ℕ) (out : ℕ) (turn : T
   pub joined_are : turn.joined ≡ joined
   pub out_is : turn.out ≡ out
   pub rests : turn.holds ≡ false
+  pub not_free : caller ≡ 0 → AllBelow free turn.seen
 
 -- what holds of a pass: it has a turn at each lock, and all are alike
 pub record IsPass (shards : ShardsShape) (caller free out : ℕ) (turns : List TurnShape)

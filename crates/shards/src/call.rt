@@ -3,6 +3,7 @@
 ghost use Rattle.std.specs.Prelude.{◌≡◌, ◌<◌, ◌≤◌, ◌^◌, ◌+◌, ◌∷◌, length, true};
 ghost use Rattle.bucket.specs.Public.{is_own};
 ghost use Rattle.ot_base.specs.Hash.{first_bits};
+ghost use Rattle.shards.specs.Shape.{KnowsNumbers};
 ghost use Rattle.tracker_model.specs.Calls.{IsWellFormed, is_request};
 ghost use Rattle.tracker_model.specs.Grows.{Step, history_at};
 ghost use Rattle.tracker_model.specs.Kinds.{IsKindOf};
@@ -54,6 +55,7 @@ impl Shards {
             }) pass.new.seen }
         ensures place { result.place + 1 ≡ length (history_at pass.new.seen result.bucket) }
         ensures pass { pass.new ≡ record pass.old { seen = pass.new.seen } }
+        ensures known { KnowsNumbers pass.new }
     {
         let bucket = place_of(self.bits, &call);
         self.call_in(rt, pass, bucket, minute, call, words)
@@ -90,6 +92,7 @@ impl Shards {
             }) pass.new.seen }
         ensures place { result.place + 1 ≡ length (history_at pass.new.seen bucket) }
         ensures pass { pass.new ≡ record pass.old { seen = pass.new.seen } }
+        ensures known { KnowsNumbers pass.new }
     {
         let caller = pass.caller;
         let lock = &self.locks[bucket as usize];

@@ -2,6 +2,7 @@
 
 ghost use Rattle.std.specs.Prelude.{◌≡◌, ◌≢◌, ◌+◌, ◌<◌, ◌∷◌, ℕ, false, All, length, map, slice_index_or};
 ghost use Rattle.shards.specs.Histories.{IsJoined, IsJoinedTurn};
+ghost use Rattle.shards.specs.Shape.{KnowsNumbers};
 ghost use Rattle.tracker_model.specs.Grows.{history_at};
 ghost use Rattle.turn_lock.specs.Shape.{TurnShape};
 
@@ -30,6 +31,7 @@ impl Shards {
         ensures seen { (bucket : ℕ) → IsJoined (pass.old.caller ∷ pass.old.joined) other.caller
             (history_at pass.old.seen bucket) (history_at other.seen bucket)
             (history_at pass.new.seen bucket) }
+        ensures known { KnowsNumbers pass.new }
     {
         join_turns(self.locks.as_slice(), &mut pass.turns, other.turns);
         pass.out -= 1;

@@ -30,7 +30,7 @@ loop-other-preserved c =
     sym (length-map c.args.turns.now.items lock_of) ∙ ap length (c.requires.locks ∙ sym c.requires.other_locks) ∙ length-map c.args.others.items lock_of in
     let read = rw place at c.index_mut.ensures.value in
     let after = c.join.ensures in
-    let joins : IsJoinedTurn c.index_mut.result.now c.in-Some.other c.join.new.turn = record { turn = after.turn; one_less = after.out; seen = record { longer = after.longer; goes_on = after.seen; other_goes_on = after.other_seen } } in
+    let joins : IsJoinedTurn c.index_mut.result.now c.in-Some.other c.join.new.turn = record { turn = after.turn; one_less = after.out; not_free = after.known.not_free; seen = record { longer = after.longer; goes_on = after.seen; other_goes_on = after.other_seen } } in
     record {
       front = here.before;
       fits = omega arith;

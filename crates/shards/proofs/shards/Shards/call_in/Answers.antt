@@ -3,10 +3,10 @@ use Rattle.std.proofs.lemmas.List.{length_push}
 use Rattle.tracker_model.specs.Grows.{Step, history_at}
 use Rattle.tracker_model.specs.Legal.{IsLegalHistory}
 use Rattle.tracker_model.specs.declared.entry.Entry.{Entry}
-use Rattle.turn_lock.specs.Histories.{GoesOn, NoneBy}
+use Rattle.turn_lock.specs.Histories.{AllBelow, GoesOn, NoneBy}
 use Rattle.turn_lock.specs.Shape.{TurnShape}
-use Rattle.shards.specs.Shape.{IsAlike, PassShape, ShardsShape, joined_of}
-use Rattle.shards.proofs.PassLemmas.{given_back, history_with, locks_known, made_step, pass_with, count_is}
+use Rattle.shards.specs.Shape.{IsAlike, IsPass, PassShape, ShardsShape, joined_of}
+use Rattle.shards.proofs.PassLemmas.{given_back, history_with, locks_known, made_step, pass_with, seen_below, count_is}
 use Rattle.shards.proofs.SettingsLemmas.{legal_by, settings_there}
 use Rattle.shards.proofs.TurnLemmas.{joined_set, read_all, seen_of}
 use Rattle.shards.proofs.shards.Shards.call_in.Goals as goal
@@ -38,8 +38,21 @@ module _ (g : _) (c : goal.After-pass-1 g) where
       let settings = c.call.ensures.settings ∙ kept ∙ ap (λ (s : ShardsShape). s.settings) view in
       rw (ap seen_of c.give-place.ensures.turn) (legal_by _ c.call.new.self _ settings (c.call.ensures.stands _ c.take-kept.ensures.stands))
 
+  -- if the pass is caller 0's, the turn has seen numbers that aren't free
+  below : c.pass.inside.caller ≡ 0 → AllBelow c.pass.inside.free c.give-place.new.turn.seen
+  below first =
+      let alike = turn_alike in
+      subst (λ n. AllBelow n c.give-place.new.turn.seen) (ap (λ (t : TurnShape). t.free) same ∙ alike.free_is)
+      (c.give-place.ensures.known.not_free (ap (λ (t : TurnShape). t.caller) same ∙ alike.caller_is ∙ first))
+
+  pass_now : IsPass c.pass.inside.place.value c.pass.inside.caller c.pass.inside.free c.pass.inside.out (set c.pass.inside.turns.items c.args.bucket c.give-place.new.turn)
+  pass_now = pass_with _ _ _ _ within c.index_mut-turn.ensures.value _ _ _ _ c.pass.invariant.0 same below
+
 pub invariant_of-pass : goal.invariant_of-pass
-invariant_of-pass g c = (pass_with _ _ _ _ (within g c) c.index_mut-turn.ensures.value _ _ _ _ c.pass.invariant.0 (same g c), c.pass.invariant.1)
+invariant_of-pass g c = (pass_now g c, c.pass.invariant.1)
+
+pub returns-clause-known : goal.returns-clause-known
+returns-clause-known g c = record { free_fits = (pass_now g c).free_fits; not_free = seen_below _ _ _ _ _ (pass_now g c) }
 
 pub returns-clause-made : goal.returns-clause-made
 returns-clause-made g c =

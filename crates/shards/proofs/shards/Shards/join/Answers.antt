@@ -3,7 +3,7 @@ use Rattle.tracker_model.specs.Grows.{history_at}
 use Rattle.shards.specs.Histories.{IsJoined}
 use Rattle.shards.specs.Shape.{PassShape, ShardsShape, joined_of}
 use Rattle.shards.proofs.JoinLemmas.{histories_joined, joined_is_pass, joined_now}
-use Rattle.shards.proofs.PassLemmas.{count_is}
+use Rattle.shards.proofs.PassLemmas.{count_is, seen_below}
 use Rattle.shards.proofs.TurnLemmas.{seen_of}
 use Rattle.shards.proofs.shards.Shards.join.Goals as goal
 
@@ -17,6 +17,11 @@ module _ (c : goal.After-drop-other-inside) where
 pub invariant_of-pass : goal.invariant_of-pass
 invariant_of-pass c =
     (joined_is_pass _ _ _ _ _ _ _ _ _ _ _ c.pass.invariant.0 c.other.invariant.0 (as_many c) c.join_turns.ensures.count c.join_turns.ensures.joined, c.pass.invariant.1)
+
+pub returns-clause-known : goal.returns-clause-known
+returns-clause-known c =
+    let pass = joined_is_pass _ _ _ _ _ _ _ _ _ _ _ c.pass.invariant.0 c.other.invariant.0 (as_many c) c.join_turns.ensures.count c.join_turns.ensures.joined in
+    record { free_fits = pass.free_fits; not_free = seen_below _ _ _ _ _ pass }
 
 pub returns-clause-pass : goal.returns-clause-pass
 returns-clause-pass c =
