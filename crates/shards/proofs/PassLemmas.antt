@@ -23,12 +23,12 @@ module _ (turns : List TurnShape) (i : ℕ) (turn new : TurnShape) (within : i <
       let P : TurnShape → Type 0 = IsAlike caller free (joined_of turns) out in
       let old = read_all P turns i turn within read pass.alike in
       let mine : P new = record {
-          caller_is = ap (λ (t : TurnShape). t.caller) same ∙ old.caller_is;
-          free_is = ap (λ (t : TurnShape). t.free) same ∙ old.free_is;
-          joined_are = ap (λ (t : TurnShape). t.joined) same ∙ old.joined_are;
-          out_is = ap (λ (t : TurnShape). t.out) same ∙ old.out_is;
-          rests = ap (λ (t : TurnShape). t.holds) same ∙ old.rests;
-          not_free = below;
+        caller_is = ap (λ (t : TurnShape). t.caller) same ∙ old.caller_is;
+        free_is = ap (λ (t : TurnShape). t.free) same ∙ old.free_is;
+        joined_are = ap (λ (t : TurnShape). t.joined) same ∙ old.joined_are;
+        out_is = ap (λ (t : TurnShape). t.out) same ∙ old.out_is;
+        rests = ap (λ (t : TurnShape). t.holds) same ∙ old.rests;
+        not_free = below;
       } in
       record {
         known = pass.known;
