@@ -1,0 +1,145 @@
+//! What no clause says: datagrams with their replies, byte for byte, and that each call succeeds.
+
+ghost use Rattle.std.specs.Prelude.{◌≡◌, IfOk, false};
+ghost use Rattle.shards.specs.Shape.{first_pass};
+
+use super::*;
+use ot_base::{Addr, Endpoint, Limits, Secret};
+use ot_io::{Incoming, MemClock, MemWire, WireScript};
+use shards::{Pass, Shards};
+use std::alloc::{AllocError, Global};
+use std::process::Abort;
+use std::sync::Wait;
+use std::test::Fail;
+use udp_wire::Quiet;
+
+const CLIENT: Endpoint = Endpoint {
+    addr: Addr::V4([10, 0, 0, 1]),
+    port: 6881,
+};
+
+/// A connect request of BEP 15, with transaction 7.
+const CONNECT: &[u8] = b"\x00\x00\x04\x17\x27\x10\x19\x80\x00\x00\x00\x00\x00\x00\x00\x07";
+
+/// Its reply in minute 0, where the secret is all zeros: the id is the front of the SHA-1 of 20
+/// zeros, the address as 16 bytes and the minute as 8 bytes.
+const CONNECTED: &[u8] = b"\x00\x00\x00\x00\x00\x00\x00\x07\xa6\xee\x5e\x33\x88\xa9\x73\x31";
+
+/// A scrape of one torrent by that id, with transaction 8.
+const SCRAPE: &[u8] = b"\xa6\xee\x5e\x33\x88\xa9\x73\x31\x00\x00\x00\x02\x00\x00\x00\x08\
+    \x11\x11\x11\x11\x11\x11\x11\x11\x11\x11\x11\x11\x11\x11\x11\x11\x11\x11\x11\x11";
+
+/// Its reply where nobody takes part in the torrent.
+const SCRAPED: &[u8] = b"\x00\x00\x00\x02\x00\x00\x00\x08\
+    \x00\x00\x00\x00\x00\x00\x00\x00\x00\x00\x00\x00";
+
+/// Buckets that nobody has called, and the pass that they begin with.
+fn shards(alloc: Global) -> Result<(Shards, Pass), AllocError>
+    ensures alone { IfOk result (λ r. r.0.settings.sync ≡ false) }
+    ensures pass { IfOk result (λ r. r.1 ≡ first_pass r.0) }
+{
+    let limits = Limits {
+        peers: 100_000,
+        torrents: 65_536,
+    };
+    Shards::new(alloc, 2, limits, false, 1)
+}
+
+/// A wire at which these wait, each from its sender, of which the calls of these numbers fail.
+fn wire(
+    alloc: Global,
+    datagrams: &[(Endpoint, &[u8])],
+    failing: &[u64],
+) -> Result<MemWire, AllocError> {
+    let mut incoming = Vec::new(alloc);
+    for (from, bytes) in datagrams {
+        incoming.push(Incoming {
+            from: *from,
+            bytes: Vec::from_slice(alloc, bytes)?,
+        })?;
+    }
+    MemWire::new(
+        alloc,
+        WireScript {
+            incoming,
+            room: datagrams.len(),
+            failing: Vec::from_slice(alloc, failing)?,
+        },
+    )
+}
+
+/// Serves so many datagrams of a wire in minute 0, and checks what was done.
+fn serve_each<R: Wait + Abort>(
+    rt: &R,
+    alloc: Global,
+    wire: &mut MemWire,
+    want: &[Served],
+) -> Result<(), AllocError> {
+    let (shards, mut pass) = shards(alloc)?;
+    let mut clock = MemClock::new(0, 1);
+    'served: for (number, want) in want.iter().enumerate() {
+        let served = serve_datagram(
+            rt,
+            &shards,
+            &mut pass,
+            wire,
+            &mut clock,
+            &Secret([0; 20]),
+            None,
+            &[0; 200],
+        );
+        assert_eq!(rt; served, *want, "{number}");
+    }
+    Ok(())
+}
+
+#[test]
+fn datagrams_are_served(rt: HostRuntime) -> Result<(), Fail> {
+    let six = Endpoint {
+        addr: Addr::V6([0x20; 16]),
+        port: 6881,
+    };
+    let waiting = [
+        (CLIENT, CONNECT),
+        (CLIENT, SCRAPE),
+        (CLIENT, b"short".as_slice()),
+        (six, CONNECT),
+    ];
+    let mut wire = wire(rt.alloc(), &waiting, &[])?;
+    serve_each(
+        &rt,
+        rt.alloc(),
+        &mut wire,
+        &[
+            Served::Sent,
+            Served::Sent,
+            Served::Silent(Quiet::Short),
+            Served::Unbuilt,
+            Served::Idle,
+        ],
+    )?;
+    let sent = wire.sent();
+    assert_eq!(&rt; sent.len(), 2);
+    assert_eq!(&rt; (sent[0].to, sent[1].to), (CLIENT, CLIENT));
+    assert_eq!(&rt; sent[0].bytes.as_slice(), CONNECTED);
+    assert_eq!(&rt; sent[1].bytes.as_slice(), SCRAPED);
+    Ok(())
+}
+
+#[test]
+fn faults_lose_one_reply(rt: HostRuntime) -> Result<(), Fail> {
+    let mut wire = wire(rt.alloc(), &[(CLIENT, CONNECT), (CLIENT, CONNECT)], &[0, 2])?;
+    serve_each(
+        &rt,
+        rt.alloc(),
+        &mut wire,
+        &[
+            Served::RecvFault,
+            Served::SendFault,
+            Served::Sent,
+            Served::Idle,
+        ],
+    )?;
+    assert_eq!(&rt; (wire.sent().len(), wire.faults()), (1, 2));
+    Ok(())
+}
