@@ -1,9 +1,9 @@
 #!/usr/bin/env bash
 # How fast the built program replays a trace, and with how much memory.
 #   bench/replay.sh [KIND ..]
-# The kinds are those of bench/traces.py, at first all of them. For each it prints records a second in three runs (one for
-# the big swarm), the time as a ratio to the fastest of three `wc -l` on the same file, the peak memory, and the ratio to
-# the connects' records a second; where peers are stored also the bytes of memory a stored peer.
+# The kinds are those of bench/traces.py, at first all of them. For each it prints records a second of processor time in
+# three runs (one for the big swarms), the time as a ratio to the fastest of three `wc -l` on the same file, the peak
+# memory, and the ratio to the connects' records a second; where peers are stored also the bytes of memory a stored peer.
 # bench/RESULTS.md has what was measured.
 set -euo pipefail
 cd "$(dirname "$0")/.."
@@ -33,11 +33,12 @@ size() {
     esac
 }
 
-# Seconds and peak memory in KiB of a command with this input. The peak is the kernel's own mark of it, looked at each 2 ms:
-# what `wait` tells after the end is no less than the size of the process that began the command.
+# Seconds of processor time, of the user's and the system's part, and peak memory in KiB of a command with this input. The
+# peak is the kernel's own mark of it, looked at each 2 ms: what `wait` tells after the end is no less than the size of the
+# process that began the command.
 measure() {
     python3 - "$@" <<'PY'
-import re, subprocess, sys, threading, time
+import os, re, subprocess, sys, threading, time
 peak = 0
 def watch(pid):
     global peak
@@ -47,18 +48,18 @@ def watch(pid):
                 mark = re.search(r"VmHWM:\s*(\d+) kB", status.read())
         except OSError:
             return
-        peak = max(peak, int(mark[1]) if mark else 0)
+        if not mark:
+            return
+        peak = max(peak, int(mark[1]))
         time.sleep(0.002)
-start = time.monotonic()
 with open(sys.argv[1], "rb") as trace:
     child = subprocess.Popen(sys.argv[2:], stdin=trace, stdout=subprocess.DEVNULL)
 watcher = threading.Thread(target=watch, args=(child.pid,))
 watcher.start()
-code = child.wait()
-seconds = time.monotonic() - start
 watcher.join()
-assert code == 0, code
-print(f"{seconds:.6f} {peak}")
+_, status, usage = os.wait4(child.pid, 0)
+assert status == 0, status
+print(f"{usage.ru_utime + usage.ru_stime:.6f} {peak}")
 PY
 }
 
