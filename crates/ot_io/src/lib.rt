@@ -7,6 +7,8 @@
 
 pub mod clock;
 pub mod conn;
+#[cfg(test)]
+mod edge_tests;
 mod faults;
 pub mod lender;
 pub mod listener;

@@ -31,7 +31,7 @@ pub trait Listener {
     /// How often it has answered that none waits: a number that doesn't fall.
     ghost idles: { Self → ℕ };
 
-    /// Accepts the connection that waits first. It doesn't wait for one.
+    /// Accepts the connection that waits first. It may wait a moment for one.
     fn accept(&mut self) -> Accept<Self::Link>
         ensures accepted { Accepts
             (λ link. tale (Self.Link.client link) (Self.Link.left link) (Self.Link.written link)

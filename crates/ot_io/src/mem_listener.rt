@@ -36,8 +36,8 @@ impl MemListener {
     ghost use Rattle.ot_io.specs.MemoryListener.{listener_faults, listener_idles};
     ghost use Rattle.ot_io.specs.Tales.{tale};
 
-    /// A listener at which nobody waits. `failing` are the numbers, from 0, of the calls of `accept`
-    /// that fail. Such a call accepts nothing.
+    /// A listener at which nobody waits. `failing` are the numbers, from 0, of the calls of
+    /// `accept` that fail. Such a call accepts nothing.
     pub fn new(alloc: Global, failing: Vec<u64>) -> Self
         ensures links { links_of result ≡ record { waiting = []; accepted = []; finished = [] } }
         ensures failing { failing_accepts result ≡ failing.items }

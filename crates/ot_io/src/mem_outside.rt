@@ -43,8 +43,8 @@ impl MemOutside {
     ghost use Rattle.ot_io.specs.Traffic.{IsNewWire};
 
     /// An outside with no wires and no listeners yet, whose clocks are all like this one. `failing`
-    /// are the numbers, from 0, of the calls of makers that fail, all kinds counted together. Such a
-    /// call makes nothing.
+    /// are the numbers, from 0, of the calls of makers that fail, all kinds counted together. Such
+    /// a call makes nothing.
     pub fn new(alloc: Global, clock: MemClock, failing: Vec<u64>) -> Self
         ensures wires { wires_left result ≡ [] }
         ensures listeners { listeners_left result ≡ [] }

@@ -31,11 +31,11 @@ pub struct Outgoing {
 pub struct WireScript {
     /// The datagrams that wait, in order.
     pub incoming: Vec<Incoming>,
-    /// How many datagrams can be sent in all. A send that passes that fails, and so does one of more
-    /// than 2,048 bytes.
+    /// How many datagrams can be sent in all. A send that passes that fails, and so does one of
+    /// more than 2,048 bytes.
     pub room: usize,
-    /// The numbers, from 0, of the calls that fail, receives and sends counted together. Such a call
-    /// takes nothing and sends nothing.
+    /// The numbers, from 0, of the calls that fail, receives and sends counted together. Such a
+    /// call takes nothing and sends nothing.
     pub failing: Vec<u64>,
 }
 
@@ -59,8 +59,8 @@ impl MemWire {
     ghost use Rattle.ot_io.specs.MemoryWire.{wire_calls, wire_faults, wire_idles};
     ghost use Rattle.ot_io.specs.MemoryWire.{wire_script, wire_traffic};
 
-    /// A wire over which nothing went yet. The room for what will be sent is taken at once: only that
-    /// can want memory.
+    /// A wire over which nothing went yet. The room for what will be sent is taken at once: only
+    /// that can want memory.
     pub fn new(alloc: Global, script: WireScript) -> Result<Self, AllocError>
         ensures script { IfOk result (λ wire. wire_script wire ≡ script) }
         ensures unused { IfOk result (λ wire. IsNewWire (Some (wire_traffic wire))

@@ -3,8 +3,8 @@ use Rattle.std.specs.Prelude.{◌≡◌, ℕ, Result, Ok, Err}
 use Rattle.ot_io.specs.Lending.{MakerFailsOnlyCounted}
 use Rattle.ot_io.specs.declared.outside.Made.{Made}
 use Rattle.ot_io.specs.declared.outside.Made.TheVariants.{Got}
-use Rattle.ot_net.specs.declared.outside.Refusal.{Refusal}
-use Rattle.ot_net.specs.declared.outside.Refusal.TheVariants.{Host, NoMemory}
+use Rattle.ot_net.specs.declared.refusal.Refusal.{Refusal}
+use Rattle.ot_net.specs.declared.refusal.Refusal.TheVariants.{Host, NoMemory}
 use Rattle.ot_io.specs.declared.outside.Made.TheVariants as made
 
 -- all that was made, and a fault is counted where the host failed alone

@@ -6,7 +6,7 @@ use std::thread;
 use std::time::{Duration, SystemTime};
 
 /// How long a pause is, in milliseconds. A caller that finds nothing to do looks again after it.
-const PAUSE: u64 = 2;
+const PAUSE: u64 = 4;
 
 /// The host's clock: whole seconds from the beginning of 1970 in UTC.
 #[derive(Drop)]

@@ -22,8 +22,8 @@ impl NetConn {
     ghost use Rattle.std.specs.Prelude.{◌≡◌, IfOk};
     ghost use Rattle.ot_net.specs.Adapters.{client_of, conn_ends, conn_faults};
 
-    /// A connection over this stream, to this client. A read or a write that waits for longer than a
-    /// second fails. An error is the host's, where it doesn't set these times.
+    /// A connection over this stream, to this client. A read or a write that waits for longer than
+    /// a second fails. An error is the host's, where it doesn't set these times.
     pub fn new(stream: TcpStream, client: Endpoint) -> io::Result<Self>
         ensures client { IfOk result (λ conn. client_of conn ≡ client) }
         ensures faults { IfOk result (λ conn. conn_faults conn ≡ 0) }

@@ -5,10 +5,14 @@
 #![tactic(auto)]
 
 mod address;
+mod arrivals;
 mod clock;
 mod conn;
 mod listener;
 mod outside;
+mod refusal;
+#[cfg(test)]
+mod tests;
 mod waiting;
 mod wire;
 

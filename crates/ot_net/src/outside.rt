@@ -8,12 +8,12 @@ ghost use Rattle.ot_net.specs.Adapters.{wire_faults, wire_idles};
 use crate::address::socket_address;
 use crate::clock::HostClock;
 use crate::listener::NetListener;
+use crate::refusal::Refusal;
 use crate::wire::NetWire;
 use ot_base::{Endpoint, Family};
 use ot_io::{Made, Outside};
-use std::alloc::{AllocError, AllocFailed, Global};
-use std::io;
-use std::net::{Net, TcpListener, TcpStream, UdpSocket};
+use std::alloc::Global;
+use std::net::{Net, TcpListener, UdpSocket};
 use std::rt::Clock;
 use std::time::Duration;
 
@@ -25,32 +25,6 @@ const RECV_TIMEOUT: u64 = 250;
 pub struct HostOutside<'a, R> {
     rt: &'a R,
     pub(crate) faults: u64,
-}
-
-/// Why nothing was made.
-#[derive(Debug, Drop)]
-enum Refusal {
-    /// The host failed.
-    Host,
-    NoMemory,
-}
-
-impl From<io::Error> for Refusal {
-    fn from(_error: io::Error) -> Self {
-        Refusal::Host
-    }
-}
-
-impl From<AllocError> for Refusal {
-    fn from(_error: AllocError) -> Self {
-        Refusal::NoMemory
-    }
-}
-
-impl<T: Drop> From<AllocFailed<T>> for Refusal {
-    fn from(_error: AllocFailed<T>) -> Self {
-        Refusal::NoMemory
-    }
 }
 
 impl<'a, R> HostOutside<'a, R> {
@@ -89,7 +63,7 @@ impl<'a, R> HostOutside<'a, R> {
 
 impl<'a, R> Outside for HostOutside<'a, R>
 where
-    R: Net<Listener = TcpListener, Stream = TcpStream> + Alloc<A = Global> + Clock,
+    R: Net + Alloc<A = Global> + Clock,
 {
     ghost use Rattle.std.specs.Prelude.{None};
     ghost use Rattle.ot_net.specs.Adapters.{outside_faults};
@@ -151,24 +125,23 @@ fn bind_wires<R: Net + Alloc<A = Global>>(
 }
 
 /// So many listeners over one socket at this address. It is closed with the last of them.
-fn bind_listeners<'a, R>(
+fn bind_listeners<'a, R: Net + Alloc<A = Global>>(
     rt: &'a R,
     at: Endpoint,
     n: u32,
 ) -> Result<Vec<NetListener<'a, R>>, Refusal>
-where
-    R: Net<Listener = TcpListener, Stream = TcpStream> + Alloc<A = Global> + Clock,
     ensures count { IfOk result (λ listeners. vec_len listeners ≡ n) }
     ensures new { IfOk result (λ listeners.
         All (λ listener. (listener_faults listener ≡ 0) × (listener_idles listener ≡ 0))
         listeners.items) }
 {
     let is_six = at.addr.family() == Family::Six;
-    let socket = TcpListener::bind(rt, socket_address(at, is_six))?;
-    socket.set_nonblocking(true)?;
+    // mio's is set not to block, and has room for as many new connections as the host allows.
+    let bound = mio::net::TcpListener::bind(rt, socket_address(at, is_six))?;
+    let socket = TcpListener::from(bound);
     let mut listeners = Vec::with_capacity(rt.alloc(), n as usize)?;
     for _made in 0..n {
-        listeners.push(NetListener::new(rt, rt.alloc(), socket.try_clone()?)?)?;
+        listeners.push(NetListener::new(rt, socket.try_clone()?)?)?;
     }
     Ok(listeners)
 }

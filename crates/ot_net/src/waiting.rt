@@ -1,6 +1,6 @@
 //! Connections whose clients haven't sent a whole head yet.
 
-ghost use Rattle.std.specs.Prelude.{◌≤◌, ◌↔◌, IsTrue};
+ghost use Rattle.std.specs.Prelude.{◌≤◌, ◌+◌, ◌↔◌, IsTrue};
 ghost use Rattle.std.specs.VecDeque.{deque_capacity, deque_len};
 ghost use Rattle.http_wire.specs.Head.{IsAnswer};
 ghost use Rattle.http_wire.specs.declared.head.Head.TheVariants.{More};
@@ -45,13 +45,16 @@ impl Waiting {
         }
     }
 
-    /// Has its reader see the end of what its client has sent so far, so that nobody waits for more.
+    /// Has its reader see the end of what its client has sent so far: nobody waits for more.
     pub fn hurry(&self) {
         // Where it fails, a read will too.
         let _ = self.stream.shutdown(Shutdown::Read);
     }
 
-    fn is_late(&self, now: u64) -> bool {
+    /// Whether it has waited too long.
+    fn is_late(&self, now: u64) -> bool
+        ensures { IsTrue result ↔ (self.now.since + 10 ≤ now) }
+    {
         now.saturating_sub(self.since) >= LONGEST
     }
 }
@@ -74,7 +77,7 @@ pub struct Room {
 }
 
 impl Room {
-    ghost use Rattle.std.specs.Prelude.{◌≡◌, ◌∷◌, ◌++◌, ◌+◌, ◌-◌, ◌<◌, ◌≤◌};
+    ghost use Rattle.std.specs.Prelude.{◌≡◌, ◌==◌, ◌∷◌, ◌++◌, ◌+◌, ◌-◌, ◌<◌, ◌≤◌};
     ghost use Rattle.std.specs.Prelude.{[], IfOk, length};
     ghost use Rattle.std.specs.Option.{option_to_list};
     ghost use Rattle.std.specs.VecDeque.{deque_len};
@@ -88,6 +91,13 @@ impl Room {
             waiting: VecDeque::with_capacity(alloc, ROOM)?,
             next: 0,
         })
+    }
+
+    /// Whether none waits.
+    pub fn is_empty(&self) -> bool
+        ensures { result ≡ (deque_len self.now.waiting == 0) }
+    {
+        self.waiting.is_empty()
     }
 
     /// One more waits, behind the others. Where there is no room, the one that waits longest has to
