@@ -37,7 +37,7 @@ pub enum Served {
     NoMemory,
 }
 
-/// Room for a datagram and for its reply, which a worker has once and not for each datagram.
+/// Room for a datagram and for its reply.
 #[derive(Drop)]
 pub(crate) struct Room {
     datagram: [u8; DATAGRAM_LEN],
