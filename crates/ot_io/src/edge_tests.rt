@@ -1,8 +1,11 @@
 //! What no clause says of wires, listeners, clocks and makers: how they are used, and that each
 //! call succeeds.
 
-ghost use Rattle.std.specs.Prelude.{◌≡◌, ◌∷◌, [], Some, take};
-ghost use Rattle.ot_io.specs.Traffic.{Datagram, Moves};
+ghost use Rattle.std.specs.Prelude.{◌≡◌, ◌∷◌, [], IfOk, Some, take};
+ghost use Rattle.ot_io.specs.MemoryListener.{links_of, listener_faults, listener_idles};
+ghost use Rattle.ot_io.specs.MemoryWire.{wire_faults, wire_idles, wire_traffic};
+ghost use Rattle.ot_io.specs.Tales.{IsNewListener};
+ghost use Rattle.ot_io.specs.Traffic.{Datagram, IsNewWire, Moves};
 
 use super::*;
 use ot_base::{Addr, Endpoint};
@@ -30,7 +33,10 @@ fn send_back<W: Wire>(wire: &mut W) -> Option<Sent>
 }
 
 /// A wire at which a short and a long datagram wait, with room for one, whose call 2 fails.
-fn wire(alloc: Global) -> Result<MemWire, AllocError> {
+fn wire(alloc: Global) -> Result<MemWire, AllocError>
+    ensures { IfOk result (λ wire. IsNewWire (Some (wire_traffic wire)) (wire_faults wire)
+        (wire_idles wire)) }
+{
     let mut incoming = Vec::new(alloc);
     let short = Vec::from_slice(alloc, b"ab")?;
     let long = vec![in alloc; 7; 2049]?;
@@ -72,7 +78,13 @@ fn a_long_datagram_is_cut(rt: HostRuntime) -> Result<(), Fail> {
     let mut buf = [0; DATAGRAM_LEN];
     for want in [2, DATAGRAM_LEN] {
         let got = wire.recv(&mut buf);
-        assert_eq!(rt; got, Recv::Got { len: want, from: CLIENT });
+        assert_eq!(rt;
+            got,
+            Recv::Got {
+                len: want,
+                from: CLIENT
+            }
+        );
     }
     assert_eq!(rt; buf[DATAGRAM_LEN - 1], 7);
     Ok(())
@@ -91,7 +103,10 @@ fn greet<L: Listener>(listener: &mut L) -> bool {
 }
 
 /// A listener at which a client waits, and whose second call fails.
-fn listener(alloc: Global) -> Result<MemListener, AllocError> {
+fn listener(alloc: Global) -> Result<MemListener, AllocError>
+    ensures { IfOk result (λ listener. IsNewListener (Some (links_of listener))
+        (listener_faults listener) (listener_idles listener)) }
+{
     let mut listener = MemListener::new(alloc, Vec::from_slice(alloc, &[1])?);
     let script = ConnScript {
         sent: Vec::new(alloc),
