@@ -6,3 +6,4 @@ mod SplitLemmas
 mod PassingLemmas
 mod JoinLemmas
 mod CloseLemmas
+pub mod Sending

@@ -1,9 +1,10 @@
 -- Passes that are split from one, one after another.
-use Rattle.std.proofs.Common.{◌≡◌, ℕ, ◌+◌, ◌<◌, ◌≤◌, List, [], ◌∷◌, ◌++◌, All, map, refl, sym, ap, subst, ◌∙◌, ⊎_elim, arith}
+use Rattle.std.proofs.Common.{◌≡◌, ◌≢◌, ℕ, ◌+◌, ◌<◌, ◌≤◌, List, [], ◌∷◌, ◌++◌, All, length, map, refl, sym, ap, subst, ◌∙◌, ⊎_elim, arith}
 use Rattle.std.specs.List.{range_with_len}
 use Rattle.std.proofs.Math.Nat.{add_assoc}
 use Rattle.std.proofs.lemmas.Bool.{cases_lt}
-use Rattle.std.proofs.lemmas.List.FromFn.{map-range_with_len_more}
+use Rattle.std.proofs.lemmas.List.Elements.{All-map}
+use Rattle.std.proofs.lemmas.List.FromFn.{get_or-range_with_len, length-map-range_with_len, length-range_with_len, map-range_with_len_more}
 use Rattle.tracker_model.specs.Grows.{OthersBetween}
 use Rattle.shards.specs.Shape.{PassShape, ShardsShape, new_pass, new_passes}
 
@@ -36,3 +37,16 @@ module _ (pass now : PassShape) (n : ℕ) (was : now ≡ kept_pass n pass) where
       let same : pass.free + n ≡ number = omega arith in
       subst (HasNone pass) same (subst (λ (p : PassShape). All (OthersBetween p.free) p.seen) was here))
       (cases_lt number (pass.free + n))
+
+-- ---- the new passes
+
+pub count_of : (pass : PassShape) (n : ℕ) (passes : List PassShape) → passes ≡ new_passes pass n → length passes ≡ n
+count_of pass n passes is = ap length is ∙ length-map-range_with_len (λ caller. new_pass pass.shards caller pass.seen) pass.free n
+
+pub passes_of : (pass : PassShape) (n : ℕ) (shards : ShardsShape) (passes : List PassShape) → passes ≡ new_passes pass n → pass.shards ≡ shards → 1 ≤ pass.free → All (λ one. (one.shards ≡ shards) × (one.caller ≢ 0)) passes
+passes_of pass n shards passes is of some =
+    let P : PassShape → Type 0 = λ one. (one.shards ≡ shards) × (one.caller ≢ 0) in
+    let all : All (λ caller. P (new_pass pass.shards caller pass.seen)) (range_with_len pass.free n) = λ k d within.
+    let there = get_or-range_with_len pass.free n k d (subst (λ m. k < m) (length-range_with_len pass.free n) within) in
+    (of, λ none. absurd (omega arith)) in
+    subst (All P) (sym is) (All-map P (λ caller. new_pass pass.shards caller pass.seen) (range_with_len pass.free n) all)

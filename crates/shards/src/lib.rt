@@ -11,6 +11,8 @@ mod pass;
 mod seat;
 mod shards;
 mod split;
+#[cfg(test)]
+mod tests;
 
 pub use call::Done;
 pub use close::{Closed, Live};
