@@ -75,6 +75,7 @@ pub fn serve_datagram<R: Wait, W: Wire, C: Clock>(
       access = option_copied access.entry;
       minute = minute_at (C.told clock.new);
     }) pass.old pass.new (W.traffic wire.old) (W.traffic wire.new) result }
+    ensures pass { pass.new ≡ record pass.old { seen = pass.new.seen } }
     ensures faults { FaultsAreCounted (W.faults wire.old) (W.faults wire.new) result }
     ensures idles { IdlesAreCounted (W.idles wire.old) (W.idles wire.new) result }
 {
@@ -114,6 +115,7 @@ fn carry<R: Wait>(
     requires formed { AllByRecursion IsWellFormed (calls_of plan.now) }
     requires complete { IsComplete plan.now }
     ensures carried { Carries minute plan.now pass.old pass.new reply.new result }
+    ensures pass { pass.new ≡ record pass.old { seen = pass.new.seen } }
     ensures fits { HasRoom result }
 {
     seat_follows::<R>();

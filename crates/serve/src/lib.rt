@@ -3,7 +3,9 @@
 #![tactic(auto)]
 
 pub mod datagram;
+pub mod request;
 #[cfg(test)]
 mod tests;
 
 pub use datagram::{Served, serve_datagram};
+pub use request::read_plan;

@@ -4,13 +4,15 @@ ghost use Rattle.std.specs.Prelude.{◌≡◌, IfOk, false};
 ghost use Rattle.shards.specs.Shape.{first_pass};
 
 use super::*;
+use http_wire::Code;
 use ot_base::{Addr, Endpoint, Limits, Secret};
-use ot_io::{Incoming, MemClock, MemWire, WireScript};
+use ot_io::{ConnScript, Incoming, MemClock, MemConn, MemWire, WireScript};
 use shards::{Pass, Shards};
 use std::alloc::{AllocError, Global};
 use std::process::Abort;
 use std::sync::Wait;
 use std::test::Fail;
+use tracker_core::{ConnectionPlan, HttpPlan};
 use udp_wire::Quiet;
 
 const CLIENT: Endpoint = Endpoint {
@@ -141,5 +143,38 @@ fn faults_lose_one_reply(rt: HostRuntime) -> Result<(), Fail> {
         ],
     )?;
     assert_eq!(&rt; (wire.sent().len(), wire.faults()), (1, 2));
+    Ok(())
+}
+
+/// What is read of a connection whose client sends this, a byte first and then as much as it has,
+/// where the calls of these numbers fail.
+fn planned(
+    alloc: Global,
+    sent: &[u8],
+    failing: &[u64],
+) -> Result<Option<ConnectionPlan>, AllocError> {
+    let script = ConnScript {
+        sent: Vec::from_slice(alloc, sent)?,
+        lengths: Vec::from_slice(alloc, &[1])?,
+        room: 0,
+        piece: 1,
+        failing: Vec::from_slice(alloc, failing)?,
+    };
+    let mut conn = MemConn::new(alloc, CLIENT, script)?;
+    read_plan(alloc, &mut conn, CLIENT, None, false)
+}
+
+#[test]
+fn requests_are_read(rt: HostRuntime) -> Result<(), Fail> {
+    let whole = b"GET /nothing HTTP/1.1\r\n\r\n";
+    let plan = planned(rt.alloc(), whole, &[])?;
+    assert!(rt; matches!(plan, Some(ConnectionPlan::Planned(HttpPlan::NotFound))));
+    let cut = planned(rt.alloc(), &whole[..20], &[])?;
+    assert!(rt; matches!(cut, Some(ConnectionPlan::More)));
+    let failed = planned(rt.alloc(), whole, &[1])?;
+    assert!(rt; failed.is_none());
+    let long = vec![in rt.alloc(); b'a'; 9_000]?;
+    let refused = planned(rt.alloc(), long.as_slice(), &[])?;
+    assert!(rt; matches!(refused, Some(ConnectionPlan::Rejected(Code::TooLarge))));
     Ok(())
 }

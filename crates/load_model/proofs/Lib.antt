@@ -1,0 +1,10 @@
+pub mod TotalsLemmas
+pub mod Lookups
+pub mod Shuffle
+pub mod AlikeLemmas
+pub mod CountLemmas
+pub mod TorrentLemmas
+pub mod SumLemmas
+pub mod PartLemmas
+pub mod LoadLemmas
+pub mod PhasedLemmas

@@ -1,0 +1,5 @@
+pub mod Load
+pub mod Text
+pub mod Drawing
+pub mod Sums
+pub mod Alike
