@@ -6,8 +6,8 @@ expiry       one announce that drops 1,000,000 stale peers of its torrent, besid
 told         announces that want 0, 50 and 200 peers, to one torrent of 1,000,000
 access       an access list of 1,000,000 hashes: to read it, and to announce with it
 
-Each case replays two traces that differ in what is asked about, three times in turn, and tells the difference of the
-least processor times (user and system) and of the peaks of memory. bench/RESULTS.md has what was measured.
+Each case but `expiry` replays two traces that differ in what is asked about, three times in turn, and tells the difference
+of the least processor times (user and system) and of the peaks of memory. bench/RESULTS.md has what was measured.
 """
 import os
 import subprocess
@@ -80,25 +80,42 @@ def full_scrape(work):
     print(f"full scrape: {torrents * row / 1e6 / (with_ - without):.0f} MB of body a second, {high - low} KiB above the peak")
 
 
+def ticks(process):
+    """Processor time of a process so far, in ticks of the kernel."""
+    with open(f"/proc/{process.pid}/stat") as stat:
+        fields = stat.read().rsplit(")", 1)[1].split()
+    return int(fields[11]) + int(fields[12])
+
+
+def settled(process):
+    """The same, once the process has been idle for half a second."""
+    last, still = -1, 0
+    while still < 5:
+        time.sleep(0.1)
+        now = ticks(process)
+        still = still + 1 if now == last else 0
+        last = now
+    return last / os.sysconf("SC_CLK_TCK")
+
+
 def expiry(work):
-    peers, late, usual = 1_000_000, 46 * 60, 100_000
+    """Asks the process itself, before and after: the difference of two whole runs isn't as exact."""
+    peers, late, usual = 1_000_000, 47 * 60, 50_000
+    child = subprocess.Popen([PROGRAM, "replay", "peers=1000000"], stdin=subprocess.PIPE, stdout=subprocess.DEVNULL)
 
-    def announced(*more):
-        """All peers in one minute, and then these announces."""
+    def after(records):
+        for record in records:
+            child.stdin.write(record.encode())
+        child.stdin.flush()
+        return settled(child)
 
-        def write_all(write):
-            for who in range(peers):
-                write(traces.announce(who, 0, who, 0, 1))
-            for who, seconds in more:
-                write(traces.announce(who, seconds, who, 0, 1))
-
-        return write_all
-
-    again = [(who, 60) for who in range(usual)]
-    cases = compare(work, same(["peers=1000000"], 3), announced(), announced((0, late)), announced(*again))
-    none, drops, renews = (seconds for seconds, _ in cases)
-    print(f"expiry: one announce that drops {peers} peers: {1e3 * (drops - none):.0f} ms, {1e9 * (drops - none) / peers:.0f} ns a peer; "
-          f"a usual one {1e9 * (renews - none) / usual:.0f} ns")
+    filled = after(traces.announce(who, 0, who, 0, 1) for who in range(peers))
+    renewed = after(traces.announce(who, 60, who, 0, 1) for who in range(usual))
+    dropped = after([traces.announce(0, late, 0, 0, 1)])
+    child.stdin.close()
+    assert child.wait() == 0
+    print(f"expiry: one announce that drops {peers} peers: {1e3 * (dropped - renewed):.0f} ms; "
+          f"a usual one {1e6 * (renewed - filled) / usual:.1f} us")
 
 
 def told(work):
