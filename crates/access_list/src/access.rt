@@ -7,8 +7,8 @@ use crate::Mode;
 use ot_base::InfoHash;
 use std::marker::Model;
 
-/// Whether a tracker takes part in a torrent, by its list if it has one: without a list it takes part
-/// in all. It takes no memory.
+/// Whether a tracker takes part in a torrent, by its list if it has one: without a list it takes
+/// part in all. It takes no memory.
 pub fn admits_hash(access: Option<&AccessList>, hash: &InfoHash) -> bool
     ensures { result ≡ admits_hash (option_copied access.entry) hash.now }
 {

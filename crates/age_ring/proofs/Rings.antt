@@ -33,7 +33,8 @@ none_in_slot {T} nodes heads slot l none = λ k d lt same.
     let within : k < length nodes = omega (arith, length-pairs_of nodes) in
     no_head-no_place slot l none k within (ap (λ s. s % length heads) (stamp_of (pairs_of nodes) k d lt) ∙ same)
 
--- the first place of the list in whose slot a due time falls, if there is one, has an item that becomes due then
+-- the first place of the list in whose slot a due time falls, if there is one, has an item that
+-- becomes due then
 pub due_at_first : {T : Type 0} (nodes : List (Node T)) (heads : List ℕ) (time spare due : ℕ) (first : Option ℕ) → IsRing nodes heads time spare → time < due → due ≤ time + length heads
     → IfSome first (λ i. i < length nodes) → IfSome first (λ i. get_or (stamps_of (pairs_of nodes)) i 0 % length heads ≡ due % length heads)
     → IfSome first (λ i. get_or (stamps_of (pairs_of nodes)) i 0 + length heads ≡ due)

@@ -1,5 +1,5 @@
--- A run over lines of which none is too long, or refused where it stands, ends done, but for want of
--- memory and the faults of the outside.
+-- A run over lines of which none is too long, or refused where it stands, ends done, but for want
+-- of memory and the faults of the outside.
 use Rattle.std.proofs.Common.{◌≡◌, ℕ, ◌+◌, ◌<◌, ◌≤◌, Bool, true, false, ◌||◌, List, [], ◌∷◌, ◌++◌, length, take, refl, sym, ◌∙◌, ap, subst, inl, inr, arith, append_assoc, append-nil, length-append}
 use Rattle.std.specs.Prelude.{◌==◌, ◌⊎◌, Option, Some, None}
 use Rattle.std.specs.List.{AllByRecursion}
@@ -24,8 +24,8 @@ module _ {X : Type 0} (P : X → Type 0) where
   all-at : (xs before after : List X) (x : X) → xs ≡ before ++ x ∷ after → AllByRecursion P xs → P x
   all-at xs before after x cut all = let Holds : List X → Type 0 = λ ys. AllByRecursion P ys in (all-back before (x ∷ after) (subst Holds cut all)).0
 
--- all lines of bytes are the whole lines of a front of them, and all lines of what is unfinished then
--- with what follows
+-- all lines of bytes are the whole lines of a front of them, and all lines of what is unfinished
+-- then with what follows
 all_lines-split : (read rest : List ℕ) → all_lines (read ++ rest) ≡ whole_lines read ++ all_lines (unfinished read ++ rest)
 all_lines-split read rest =
     ap (λ whole. whole ++ last_line (unfinished (read ++ rest))) (whole_lines-append read rest)

@@ -138,7 +138,8 @@ module _ (minute : Minute) (h : InfoHash) where
       alike_calls calls reports.1 (made minute call ∷ a) (made minute call ∷ b)
       (alike_more minute.0 h call (reports_of_load call reports.0) (made minute call) (made minute call) a b (made_is minute call) (made_is minute call) ab)
 
-  -- entries of any callers, with any answers that took effect, on one side, and their calls on the other
+  -- entries of any callers, with any answers that took effect, on one side, and their calls on the
+  -- other
   pub alike_entries : (xs : List Entry) → AllByRecursion (λ x. IsReport x.call × IsMade minute.0 x.call x) xs → (a b : List Entry) → AreAlike minute.0 h a b →
       AreAlike minute.0 h (after a xs) (after_calls minute b (map (λ (x : Entry). x.call) xs))
   alike_entries [] are a b ab = ab

@@ -1,5 +1,5 @@
--- Two lists that have the same elements of each key, in the same order, differ by swaps of neighbours
--- of different keys.
+-- Two lists that have the same elements of each key, in the same order, differ by swaps of
+-- neighbours of different keys.
 use Rattle.std.proofs.Common.{◌≡◌, ◌≢◌, ℕ, Bool, true, false, List, [], ◌∷◌, ◌++◌, refl, sym, ◌∙◌, ap, subst, cond, arith}
 use Rattle.std.proofs.lemmas.Bool.Decides.{nat_tests}
 use Rattle.std.proofs.lemmas.List.Elements.{filter-append}
@@ -93,8 +93,8 @@ module _ {X : Type 0} (key : X → ℕ) where
   all_back P [] x back all = all.1
   all_back P (y ∷ front) x back all = all_back P front x back all.1
 
-  -- What holds of a list and itself, passes on, and holds after each element that is put in front and
-  -- each swap of neighbours of different keys, holds of two lists that agree on each key.
+  -- What holds of a list and itself, passes on, and holds after each element that is put in front
+  -- and each swap of neighbours of different keys, holds of two lists that agree on each key.
   module _ (R : List X → List X → Type 0) (P : X → Type 0)
       (same : (xs : List X) → AllByRecursion P xs → R xs xs)
       (chain : (xs ys zs : List X) → R xs ys → R ys zs → R xs zs)

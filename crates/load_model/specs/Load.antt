@@ -27,11 +27,13 @@ pub record CanDrill (s : DrillSettings) : Type 0 where
 
 -- ---- requests
 
--- the torrent of a number below 64: its hash begins with the number's six bits, and all others are 0
+-- the torrent of a number below 64: its hash begins with the number's six bits, and all else
+-- is 0
 abbrev pub torrent_hash : ℕ → InfoHash
 torrent_hash k = record { 0 = to_be_bytes w32 (k * 67108864) ++ replicate 16 0 }
 
--- the peer of a number below 1,024: 10.0 and the number's two bytes, with the usual port of BitTorrent
+-- the peer of a number below 1,024: 10.0 and the number's two bytes, with the usual port of
+-- BitTorrent
 abbrev pub peer_at : ℕ → Endpoint
 peer_at e = record { addr = V4 (10 ∷ 0 ∷ e / 256 ∷ e % 256 ∷ []); port = 6881 }
 
@@ -39,8 +41,8 @@ peer_at e = record { addr = V4 (10 ∷ 0 ∷ e / 256 ∷ e % 256 ∷ []); port =
 abbrev pub peer_number : Request → ℕ
 peer_number r = r.second % 1024
 
--- what a request does, by three bits of its first word: 0 is a stop, 1 to 3 are announces of a seed,
--- of which 1 has just completed, and 4 to 7 announces of a leecher
+-- what a request does, by three bits of its first word: 0 is a stop, 1 to 3 are announces of a
+-- seed, of which 1 has just completed, and 4 to 7 announces of a leecher
 abbrev pub call_by : ℕ → InfoHash → Endpoint → Call
 call_by zero h e = Stop h e
 call_by (suc kind) h e = Announce h e (nat_lt kind 3) (kind == 0) 50
@@ -95,8 +97,8 @@ load_settings = record { limits = record { peers = 1000000; torrents = 1000000 }
 abbrev pub phase_minute : ℕ → Minute
 phase_minute phase = record { 0 = 15 * phase }
 
--- A call of one caller that took effect. What was told for it says nothing of what is known later, so
--- one answer stands for all
+-- A call of one caller that took effect. What was told for it says nothing of what is known later,
+-- so one answer stands for all
 abbrev pub made : Minute → Call → Entry
 made minute call = record { caller = 0; minute = minute; call = call; answer = Applied }
 

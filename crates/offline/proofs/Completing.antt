@@ -1,5 +1,5 @@
--- An input none of whose lines is refused where it stands: a whole access list, where there is to be
--- one, and records.
+-- An input none of whose lines is refused where it stands: a whole access list, where there is to
+-- be one, and records.
 use Rattle.std.proofs.Common.{◌≡◌, ℕ, ◌+◌, ◌≤◌, List, [], ◌∷◌, ◌++◌, Bool, true, false, length, refl, sym, ◌∙◌, ap, subst, arith, length-append}
 use Rattle.std.specs.Prelude.{All, Option, Some, None, Result, Ok, Err, IsOk, is_some, nat_le, not, ◌&&◌, if◌then◌else◌}
 use Rattle.std.specs.List.{AllByRecursion}

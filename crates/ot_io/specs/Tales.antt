@@ -26,8 +26,8 @@ IsUntouched (Some written) = written ≡ []
 abbrev pub IsNewConnection : Tale → Type 0
 IsNewConnection link = IsUntouched link.written × (link.faults ≡ 0) × (link.ends ≡ 0)
 
--- what waits at a listener, as it is to be accepted; what was accepted, as it was then; and what was
--- taken back, as it was then; all in order
+-- what waits at a listener, as it is to be accepted; what was accepted, as it was then; and what
+-- was taken back, as it was then; all in order
 pub record Links : Type 0 where
   pub waiting : List Tale
   pub accepted : List Tale

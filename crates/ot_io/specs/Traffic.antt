@@ -22,8 +22,8 @@ pub record Traffic : Type 0 where
   pub received : List Datagram
   pub sent : List Datagram
 
--- A wire received the datagrams `ins`, which waited first, and sent the datagrams `outs`. What isn't
--- told stays untold.
+-- A wire received the datagrams `ins`, which waited first, and sent the datagrams `outs`. What
+-- isn't told stays untold.
 abbrev pub Moves : Option Traffic → Option Traffic → List Datagram → List Datagram → Type 0
 Moves None None ins outs = Unit
 Moves None (Some new) ins outs = ⊥

@@ -51,10 +51,10 @@ Handles terms old new came answers =
 abbrev pub Replies : Terms → Datagram → List Answer → List ℕ → Type 0
 Replies terms came answers reply = udp_text (plan_of terms came) answers ≡ Some reply
 
--- What was done for a datagram at a wire: none came; or one came from an address that isn't answered
--- yet, or one that is no request, and it is left without a reply; or its plan was carried out and
--- its sender was sent the reply, or that was lost; or there was no memory for its announce, which
--- has no reply.
+-- What was done for a datagram at a wire: none came; or one came from an address that isn't
+-- answered yet, or one that is no request, and it is left without a reply; or its plan was carried
+-- out and its sender was sent the reply, or that was lost; or there was no memory for its announce,
+-- which has no reply.
 abbrev pub Serves : Terms → (old new : PassShape) → (wire wire' : Option Traffic) → Served → Type 0
 Serves terms old new wire wire' Idle = (new ≡ old) × Moves wire wire' [] [] × NoneWaits wire'
 Serves terms old new wire wire' RecvFault = (new ≡ old) × Moves wire wire' [] []

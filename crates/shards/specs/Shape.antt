@@ -30,7 +30,8 @@ pub record PassShape : Type 0 where
   -- the history that it has seen of each bucket, in order, with the oldest entry first
   pub seen : List (List Entry)
 
--- A pass's free numbers are the shards'. All that caller 0's has seen is of numbers that aren't free
+-- A pass's free numbers are the shards'. All that caller 0's has seen is of numbers that aren't
+-- free
 pub record KnowsNumbers (pass : PassShape) : Type 0 where
   pub free_fits : pass.free ≤ pass.shards.callers
   pub not_free : pass.caller ≡ 0 → All (AllBelow pass.free) pass.seen
@@ -79,8 +80,8 @@ abbrev pub joined_of : List TurnShape → List ℕ
 joined_of [] = []
 joined_of (turn ∷ turns) = turn.joined
 
--- a turn that nobody waits for or has, with these numbers. If it is caller 0's, all that it has seen
--- is of numbers that aren't free
+-- a turn that nobody waits for or has, with these numbers. If it is caller 0's, all that it has
+-- seen is of numbers that aren't free
 pub record IsAlike (caller free : ℕ) (joined : List ℕ) (out : ℕ) (turn : TurnShape)
     : Type 0 where
   pub caller_is : turn.caller ≡ caller

@@ -28,8 +28,9 @@ pub struct Done {
 
 impl Shards {
     /// Makes an announce, a stop or a scrape on its torrent's bucket, in its turn. The bucket's
-    /// history goes on with calls of others, of which none is joined to the pass, and then with this
-    /// one, which is answered right just there. An announce is told the peers that `words` choose.
+    /// history goes on with calls of others, of which none is joined to the pass, and then with
+    /// this one, which is answered right just there. An announce is told the peers that `words`
+    /// choose.
     pub fn call<R: Wait>(
         &self,
         rt: &R,

@@ -32,8 +32,9 @@ pub struct Live {
 }
 
 impl Shards {
-    /// Ends the shards, where no pass but caller 0's is left. That one has seen the whole history of
-    /// each bucket, with all calls of all passes. Else all comes back as it was. Takes no memory.
+    /// Ends the shards, where no pass but caller 0's is left. That one has seen the whole history
+    /// of each bucket, with all calls of all passes. Else all comes back as it was. Takes no
+    /// memory.
     pub fn close<R: Wait>(self, rt: &R, pass: Pass) -> Result<Closed, Live>
         requires pass { pass.shards ≡ self }
         requires first { pass.caller ≡ 0 }

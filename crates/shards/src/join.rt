@@ -14,8 +14,8 @@ use turn_lock::{Turn, TurnLock};
 impl Shards {
     /// Ends a pass that was split from caller 0's. Of each bucket that one has then seen the longer
     /// of both histories, which has of the ended number just the entries that the ended pass has
-    /// seen. From now on nobody adds an entry of that number: it is one of those joined, of which no
-    /// call comes between.
+    /// seen. From now on nobody adds an entry of that number: it is one of those joined, of which
+    /// no call comes between.
     pub fn join(&self, pass: &mut Pass, other: Pass)
         requires pass { pass.old.shards ≡ self.now }
         requires first { pass.old.caller ≡ 0 }

@@ -1,6 +1,6 @@
-//! The buckets of a tracker for callers in many threads. Each bucket has a lock of its own, so calls
-//! on different buckets don't wait for one another. A caller has a pass, with a turn at each lock,
-//! and knows of each bucket a beginning of its one history, with all its own calls.
+//! The buckets of a tracker for callers in many threads. Each bucket has a lock of its own, so
+//! calls on different buckets don't wait for one another. A caller has a pass, with a turn at each
+//! lock, and knows of each bucket a beginning of its one history, with all its own calls.
 #![tactic(auto)]
 
 mod call;

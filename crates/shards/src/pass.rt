@@ -10,10 +10,10 @@ use std::marker::Model;
 use std::snapshot::Snapshot;
 use turn_lock::Turn;
 
-/// What one caller has of shards: a turn at each of their locks. To a contract it is the shards that
-/// it belongs to, its caller number, the numbers that it has free, those of the passes that were
-/// joined to it, how many passes split from it are out, and the history that it has seen of each
-/// bucket. A pass that is dropped stays out, and so the shards can't be closed.
+/// What one caller has of shards: a turn at each of their locks. To a contract it is the shards
+/// that it belongs to, its caller number, the numbers that it has free, those of the passes that
+/// were joined to it, how many passes split from it are out, and the history that it has seen of
+/// each bucket. A pass that is dropped stays out, and so the shards can't be closed.
 #[derive(Drop)]
 pub struct Pass {
     /// One at each lock, in their order.

@@ -13,8 +13,8 @@ use std::marker::Model;
 use turn_lock::{Turn, TurnLock};
 
 /// The buckets of a tracker, 2^`bits` of them, each under a lock of its own. To a contract they are
-/// the locks, the settings of each bucket, the bits of a hash that tell its bucket, and the number of
-/// callers. None of these ever changes.
+/// the locks, the settings of each bucket, the bits of a hash that tell its bucket, and the number
+/// of callers. None of these ever changes.
 #[derive(Drop)]
 pub struct Shards {
     pub(crate) locks: Vec<TurnLock<Bucket>>,

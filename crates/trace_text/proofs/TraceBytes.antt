@@ -70,7 +70,8 @@ counted_of-whole hex bytes more most even is sum whole =
     let small : length bytes ≤ most = omega arith in
     rw whole (ap Ok (take-counted bytes more most small (full_or_all (length hex) (length bytes) (length more) most even is sum)))
 
--- the digits of the bytes that count decode into their room, and digits follow: those bytes are what counts
+-- the digits of the bytes that count decode into their room, and digits follow: those bytes are
+-- what counts
 pub counted_of-read : (hex bytes : List ℕ) (len most : ℕ) → length hex % 2 ≡ 0 → len ≡ min (length hex / 2) most
     → decode_sized (take (2 * len) hex) len ≡ Ok bytes → list_all is_hex_digit (drop (2 * len) hex) ≡ true
     → (counted_of most (decode_of hex) ≡ Ok bytes) × (length bytes ≡ len)

@@ -38,7 +38,8 @@ counts_download-call x past call done is h =
     ap (λ b. b && is_download x.call h past (time_of (x ∷ past))) done
     ∙ ap (λ c. is_download c h past (time_of (x ∷ past))) is
 
--- a call that reports that nobody takes part touches nothing, and one that is no completed announce counts nothing
+-- a call that reports that nobody takes part touches nothing, and one that is no completed announce
+-- counts nothing
 pub leaves_untouched : (x : Entry) (call : Call) → is_effective x ≡ true → x.call ≡ call → ((h : InfoHash) → is_joining call h ≡ false) → (h : InfoHash) → touches x h ≡ false
 leaves_untouched x call done is joining h = touches-call x call done is h ∙ joining h
 
@@ -66,7 +67,8 @@ says_word x call h e done is about =
       others = λ g d apart. at g d ∙ ap (λ b. if b then call_word call else silent) apart;
     }
 
--- a call that reports that an endpoint takes part touches that torrent alone, and counts a download of no other
+-- a call that reports that an endpoint takes part touches that torrent alone, and counts a download
+-- of no other
 pub touches_one : (x : Entry) (past : List Entry) (call : Call) (h : InfoHash) (e : Endpoint) (is_one : Bool) → is_effective x ≡ true → x.call ≡ call → joins call ≡ Some (h, e) →
     is_download call h past (time_of (x ∷ past)) ≡ is_one → ((g : InfoHash) → same_hash h g ≡ false → is_download call g past (time_of (x ∷ past)) ≡ false) → Touches x past h is_one
 touches_one x past call h e is_one done is joined counted uncounted =

@@ -98,8 +98,8 @@ module _ (now : List Entry) (stored : List Torrent) (kept : Keeps now (time_of n
   rows_right (BucketFull count) told = absurd told
   rows_right NoMemory told = absurd told
 
--- what a bucket tells is what the call asks, where time, peers and torrents after it, and the outbox before it,
--- are those of the history
+-- what a bucket tells is what the call asks, where time, peers and torrents after it, and the
+-- outbox before it, are those of the history
 tells_right : (g : Settings) (past now : List Entry) (old new : Shape) (call : Call) (a : Answer) → new.time ≡ time_of now → Keeps now (time_of now) new.torrents →
     old.notes ≡ outbox_notes g past → old.dropped ≡ outbox_dropped g past → AnswersFor old new call a → Answers g past now call a
 tells_right g past now old new (Announce h who seed completed want) a on_time kept noted lost tells =
@@ -149,7 +149,7 @@ judged_right x past old new holds step right =
     fact)
     right
 
--- a bucket that stands for a history, answers right by what it has stored and makes the entry's step stands for
--- the longer history
+-- a bucket that stands for a history, answers right by what it has stored and makes the entry's
+-- step stands for the longer history
 pub stands_judged : (history : List Entry) (x : Entry) (old new : Shape) → StandsFor history old → IsWellFormed x.call → IsRightFor old new x.call x.answer → StepsTo x old new → StandsFor (history ++ x ∷ []) new
 stands_judged history x old new stands formed right step = stands_step history x old new stands formed (judged_right x (reverse history) old new stands.holds step right) step

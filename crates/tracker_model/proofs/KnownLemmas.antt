@@ -65,7 +65,8 @@ one_more-min false false count = omega arith
 pub zero_recent : (now : ℕ) → nat_lt (now - now) TORRENT_MINUTES ≡ true
 zero_recent now = grind (arith, nat_tests)
 
--- a torrent that an entry touches is known just then, with one more download if the entry counts one
+-- a torrent that an entry touches is known just then, with one more download if the entry counts
+-- one
 pub known-touched : (x : Entry) (past : List Entry) (h : InfoHash) (is_one : Bool) → touches x h ≡ true → counts_download x h past ≡ is_one →
     known (x ∷ past) h (time_of (x ∷ past)) ≡ Some (record { touch = time_of (x ∷ past); downloaded = one_more is_one (downloads_in (known past h (time_of (x ∷ past)))) })
 known-touched x past h is_one touched counted =

@@ -1,4 +1,5 @@
--- A bucket that stood for a history and makes an entry's step stands for the history with the entry.
+-- A bucket that stood for a history and makes an entry's step stands for the history with the
+-- entry.
 use Rattle.std.proofs.Common.{◌≡◌, ℕ, ◌≤◌, max, Bool, true, false, not, ◌&&◌, Some, List, [], ◌∷◌, ◌++◌, reverse, take, length, min, ◌-◌, refl, sym, ◌∙◌, ap, subst, arith, if◌then◌else◌}
 use Rattle.std.proofs.lemmas.List.{reverse-append}
 use Rattle.std.specs.List.{IsDistinct}
@@ -94,7 +95,8 @@ newest_first history x = reverse-append history (x ∷ [])
 pub legal_step : (g : Settings) (history : List Entry) (x : Entry) → IsLegalHistory g history → IsWellFormed x.call → IsRightAfter g history x → IsLegalHistory g (history ++ x ∷ [])
 legal_step g history x legal formed right = let P : List Entry → Type 0 = λ past. IsLegalPast g past in subst P (sym (newest_first history x)) (formed, right, legal)
 
--- a bucket that stands for a history, answers right and makes the step stands for the longer history
+-- a bucket that stands for a history, answers right and makes the step stands for the longer
+-- history
 pub stands_step : (history : List Entry) (x : Entry) (old new : Shape) → StandsFor history old → IsWellFormed x.call → IsRightAfter old.settings history x → StepsTo x old new → StandsFor (history ++ x ∷ []) new
 stands_step history x old new stands formed right step =
     let P : List Entry → Type 0 = λ past. Holds past new in

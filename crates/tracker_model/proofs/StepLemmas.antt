@@ -32,8 +32,8 @@ keeps_later past now later old new le kept same = record {
   torrents = λ h. same.torrents h ∙ known_agrees_later now later le _ _ (kept.torrents h);
 }
 
--- an entry that says nothing of any endpoint, touches no torrent and counts no download: it was refused,
--- or asks only
+-- an entry that says nothing of any endpoint, touches no torrent and counts no download: it was
+-- refused, or asks only
 pub record IsQuiet (x : Entry) (past : List Entry) : Type 0 where
   pub unsaid : (h : InfoHash) (e : Endpoint) → word_of x h e ≡ silent
   pub untouched : (h : InfoHash) → touches x h ≡ false

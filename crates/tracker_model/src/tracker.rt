@@ -16,8 +16,8 @@ use crate::{Answer, Call};
 use ot_base::{Counts, InfoHash, Minute, Rows};
 use std::alloc::AllocError;
 
-/// The buckets of a tracker, as one caller has them: alone on one thread, or as one of several. What
-/// answers requests knows a tracker by these words, and so does the same for every one.
+/// The buckets of a tracker, as one caller has them: alone on one thread, or as one of several.
+/// What answers requests knows a tracker by these words, and so does the same for every one.
 pub trait Tracker {
     /// The settings of each bucket.
     ghost settings: { Self → Settings };

@@ -104,7 +104,8 @@ module _ {T : Type 0} (settings_of : T → List ℕ) (stands : T → List Entry 
         },
       ))
 
-  -- One turn's view goes from v to w, and the history, the next ticket and what is at home to others
+  -- One turn's view goes from v to w, and the history, the next ticket and what is at home to
+  -- others
   moved : (s : St) (k : Kept s) (id : ℕ) (v w : Know) → get_elem? s.views id ≡ some v → Same v w →
       (words : List ℕ) (homes : List (maybe.Option (Option T))) (log : List Entry) (next : ℕ) (home : maybe.Option (Option T)) →
       words ≡ next ∷ length log ∷ [] → homes ≡ home ∷ [] → next ≤ 2 ^ 62 → next ≡ length log + count_by has_ticket (set s.views id w) →

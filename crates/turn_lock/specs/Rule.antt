@@ -1,4 +1,5 @@
--- The rule of a lock's table: what holds of its words, its slot and all turns between any two steps.
+-- The rule of a lock's table: what holds of its words, its slot and all turns between any two
+-- steps.
 use Rattle.std.specs.Prelude.{◌≡◌, ◌≢◌, ◌+◌, ◌<◌, ◌≤◌, ◌^◌, ◌⊎◌, ℕ, suc, Bool, true, false, List, [], ◌∷◌, length, count_by, Option, Some}
 use Rattle.std.specs.List.{AllByRecursion}
 use mathlib.Core.Option.{some}

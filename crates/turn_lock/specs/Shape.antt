@@ -33,8 +33,8 @@ pub record IsSpare (turn : TurnShape) (number : ℕ) : Type 0 where
   pub from : turn.free ≤ number
   pub below : number < turn.lock.callers
 
--- A turn's own number isn't free, and its free numbers are the lock's. All that caller 0 has seen is
--- of numbers that aren't free
+-- A turn's own number isn't free, and its free numbers are the lock's. All that caller 0 has seen
+-- is of numbers that aren't free
 pub record KnowsCallers (turn : TurnShape) : Type 0 where
   pub own : turn.caller < turn.free
   pub first_free : turn.free ≤ turn.lock.callers

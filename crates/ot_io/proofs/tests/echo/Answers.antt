@@ -1,4 +1,5 @@
--- One more piece: a read leaves what was written, and a write what is left, by the connection's laws.
+-- One more piece: a read leaves what was written, and a write what is left, by the connection's
+-- laws.
 use Rattle.std.proofs.Common.{◌∙◌, sym, arith}
 use Rattle.std.proofs.KnownBytes.{Appends-trans, Consumes-trans}
 use Rattle.ot_io.proofs.Asides.{same_written, same_left, same_client_read, same_client_written}

@@ -1,4 +1,5 @@
--- Before `low` the picked positions stand before the one that is sought, and from `high` on they stand after it.
+-- Before `low` the picked positions stand before the one that is sought, and from `high` on they
+-- stand after it.
 use Rattle.std.proofs.Common.{◌-◌}
 use Rattle.pick.proofs.picked.picked_before.Given as goal
 use Rattle.pick.proofs.PickLemmas.{IsNarrowed}
