@@ -52,30 +52,34 @@ ended_write ending.ReadFault e = cc
 ended_write ending.WriteFault e = refl
 ended_write ending.NoMemory e = cc
 
--- a status that isn't of words
-abbrev IsNoWords : Status → Type 0
-IsNoWords ended.Done = Unit {0}
-IsNoWords (ended.Words at) = ⊥
-IsNoWords ended.NoMemory = Unit {0}
-IsNoWords ended.ReadFault = Unit {0}
-IsNoWords ended.WriteFault = Unit {0}
-IsNoWords (ended.Line line fault) = Unit {0}
-IsNoWords (ended.TooLong line) = Unit {0}
-IsNoWords ended.TooMuch = Unit {0}
-IsNoWords (ended.List line fault) = Unit {0}
+-- a status that a replay may have
+abbrev IsOfReplay : Status → Type 0
+IsOfReplay ended.Done = Unit {0}
+IsOfReplay (ended.Words at) = ⊥
+IsOfReplay ended.NoMemory = Unit {0}
+IsOfReplay ended.ReadFault = Unit {0}
+IsOfReplay ended.WriteFault = Unit {0}
+IsOfReplay (ended.Line line fault) = Unit {0}
+IsOfReplay (ended.TooLong line) = Unit {0}
+IsOfReplay ended.TooMuch = Unit {0}
+IsOfReplay (ended.List line fault) = Unit {0}
+IsOfReplay ended.Device = ⊥
 
-no_words_of : (end : Ending Fault) → IsNoWords (status_of end)
-no_words_of ending.Done = tt
-no_words_of (ending.Refused n (because.List fault)) = tt
-no_words_of (ending.Refused n (because.Line fault)) = tt
-no_words_of (ending.TooLong n) = tt
-no_words_of ending.TooMuch = tt
-no_words_of ending.ReadFault = tt
-no_words_of ending.WriteFault = tt
-no_words_of ending.NoMemory = tt
+of_replay : (end : Ending Fault) → IsOfReplay (status_of end)
+of_replay ending.Done = tt
+of_replay (ending.Refused n (because.List fault)) = tt
+of_replay (ending.Refused n (because.Line fault)) = tt
+of_replay (ending.TooLong n) = tt
+of_replay ending.TooMuch = tt
+of_replay ending.ReadFault = tt
+of_replay ending.WriteFault = tt
+of_replay ending.NoMemory = tt
 
 ended_words : (end : Ending Fault) (at : ℕ) → status_of end ≡ ended.Words at → ⊥
-ended_words end at e = subst IsNoWords e (no_words_of end)
+ended_words end at e = subst IsOfReplay e (of_replay end)
+
+ended_device : (end : Ending Fault) → status_of end ≡ ended.Device → ⊥
+ended_device end e = subst IsOfReplay e (of_replay end)
 
 -- the two endings differ
 abbrev IsNoMemory : Ending Fault → Type 0
@@ -111,6 +115,7 @@ module _ {S O : Type 0} (left : S → Option (List ℕ)) (ends reads : S → ℕ
           read_fault = λ e. read_fault (ended_read end e);
           write_fault = λ e. write_fault (ended_write end e);
           no_words = ended_words end;
+          no_device = ended_device end;
         };
         complete = λ bytes known few inputs reads_well writes_well.
             let Known : Option (List ℕ) → Type 0 = λ x. RunsLines Ended (IsAnswered s) IsRefused MayEnd IsEndRefused
@@ -153,6 +158,7 @@ module _ {S O : Type 0} (left : S → Option (List ℕ)) (ends reads : S → ℕ
       read_fault = λ e. absurd (cc);
       write_fault = λ e. absurd (cc);
       no_words = λ at e. absurd (cc);
+      no_device = λ e. absurd (cc);
     };
     complete = λ bytes known few inputs reads_well writes_well. inr refl;
   }

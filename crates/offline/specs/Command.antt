@@ -75,6 +75,7 @@ module _ {S O : Type 0} (left : S → Option (List ℕ)) (ends reads : S → ℕ
     pub read_fault : status ≡ ended.ReadFault → Rose (reads input) (reads input')
     pub write_fault : status ≡ ended.WriteFault → Rose (writes out) (writes out')
     pub no_words : (at : ℕ) → status ≡ ended.Words at → ⊥
+    pub no_device : status ≡ ended.Device → ⊥
 
   -- The lines of the input were answered one after another, however the source cut them, beginning
   -- with the access list, if there is to be one, and empty histories of one thread's tracker: what

@@ -1,23 +1,17 @@
 //! What answers the records of a trace.
 
-ghost use Rattle.std.specs.Prelude.{◌≡◌, false, true};
-ghost use Rattle.tracker_core.specs.ConnectionPlan.{IsBoundedConnection};
-ghost use Rattle.tracker_core.specs.declared.connection_plan.ConnectionPlan.TheVariants.{Planned};
-ghost use Rattle.tracker_core.specs.declared.http_plan.HttpPlan.TheVariants.{Full};
-
 use crate::command::Fault;
 use crate::full::add_full_line;
 use crate::output::{OUTPUT_ROOM, add_sent_line, write_cleaned_line, write_outcome};
-use crate::words::Words;
 use access_list::AccessList;
 use bucket::Shelf;
 use lines::{Replies, Trouble};
 use ot_base::Minute;
 use ot_io::{LineFault, ReplaySettings, Sink};
-use request_handler::{carry_out, clean_all, serve};
+use request_handler::{Draws, Words, asks_for_all, carry_out, clean_all, serve};
 use std::alloc::{AllocError, Global};
 use trace_text::{DATAGRAM_BYTES, RECORD_BYTES, Received, Record, read_record};
-use tracker_core::{ConnectionPlan, HttpPlan, plan_connection, plan_udp};
+use tracker_core::{plan_connection, plan_udp};
 use udp_wire::REPLY_ROOM;
 
 /// A tracker on one thread, and room for one record.
@@ -61,7 +55,7 @@ impl Answerer {
         Ok(Answerer {
             settings: *settings,
             shelf: Shelf::new(alloc, settings.bits, settings.limits, false)?,
-            words: Words::new(settings.seed),
+            words: Words::new(settings.seed, Draws::All),
             alloc,
             bytes: [0; RECORD_BYTES],
             reply: [0; REPLY_ROOM],
@@ -210,12 +204,4 @@ impl Answerer {
         replies.add(out, &self.output[..len])?;
         Ok(())
     }
-}
-
-/// Whether a plan is to tell all torrents.
-fn asks_for_all(plan: &ConnectionPlan) -> bool
-    ensures all { result ≡ true → plan.now ≡ Planned Full }
-    ensures bounded { result ≡ false → IsBoundedConnection plan.now }
-{
-    matches!(plan, ConnectionPlan::Planned(HttpPlan::Full))
 }

@@ -10,6 +10,5 @@ mod phase;
 mod replay;
 #[cfg(test)]
 mod tests;
-mod words;
 
 pub use command::{Fault, Offline, run_offline};

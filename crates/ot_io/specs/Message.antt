@@ -8,7 +8,7 @@ use Rattle.ot_io.specs.declared.status.LineFault.{LineFault}
 use Rattle.ot_io.specs.declared.status.LineFault.TheVariants.{Trace}
 use Rattle.ot_io.specs.declared.status.Status.{Status}
 use Rattle.ot_io.specs.declared.status.Status.TheVariants.{Done, Words, NoMemory, ReadFault}
-use Rattle.ot_io.specs.declared.status.Status.TheVariants.{WriteFault, Line, TooLong, TooMuch}
+use Rattle.ot_io.specs.declared.status.Status.TheVariants.{WriteFault, Line, TooLong, TooMuch, Device}
 use Rattle.ot_io.specs.declared.status.Status.TheVariants as status
 
 -- the program's name, then what happened, then 0x0A
@@ -33,6 +33,7 @@ status_text (Line line fault) = line_message line (fault_word fault)
 status_text (TooLong line) = line_message line (codes "too long")
 status_text TooMuch = message (codes "too much input")
 status_text (status.List line fault) = line_message line (access_fault_word fault)
+status_text Device = message (codes "device fault")
 
 -- a text was written, or only a front of it, and then the count of faults rose
 abbrev pub TellsLine : Option (List ℕ) → Option (List ℕ) → ℕ → ℕ → List ℕ → Type 0

@@ -37,6 +37,7 @@ fn line_of(status: Status) -> ArrayString<LINE_LEN>
         Status::TooLong { line } => line_refused(line, "too long"),
         Status::TooMuch => plain("too much input"),
         Status::List { line, fault } => line_refused(line, fault.word()),
+        Status::Device => plain("device fault"),
     }
 }
 

@@ -1,6 +1,6 @@
 //! What a run is told by its command line.
 
-use ot_base::{Limits, Mode, Secret};
+use ot_base::{Endpoint, Limits, Mode, Secret};
 
 /// The settings of a replay.
 #[derive(Clone, Copy, Debug, PartialEq, Eq)]
@@ -18,4 +18,17 @@ pub struct ReplaySettings {
     /// What the access list that the input begins with does with its torrents. Without a list there
     /// are none of its lines, and every torrent is admitted.
     pub access: Option<Mode>,
+}
+
+/// The settings of a server.
+#[derive(Clone, Copy, Debug, PartialEq, Eq)]
+pub struct ServeSettings {
+    /// What a server and a replay are both told.
+    pub replay: ReplaySettings,
+    /// Where datagrams are received, if anywhere.
+    pub udp: Option<Endpoint>,
+    /// Where connections are accepted, if anywhere.
+    pub http: Option<Endpoint>,
+    /// How many workers each of the two has, from 1 to 64.
+    pub workers: u32,
 }

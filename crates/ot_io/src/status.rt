@@ -47,6 +47,8 @@ pub enum Status {
     /// This line, from 1, is the first of the access list that is refused. Where the input ended
     /// before the list did, it is the line after the last.
     List { line: u64, fault: AccessFault },
+    /// A socket couldn't be opened, or a clock couldn't be made.
+    Device,
 }
 
 impl Status {
@@ -64,6 +66,7 @@ impl Status {
             Status::TooLong { .. } => 7,
             Status::TooMuch => 8,
             Status::List { .. } => 9,
+            Status::Device => 10,
         }
     }
 }

@@ -159,6 +159,7 @@ fn status_codes(rt: HostRuntime) {
         (line, 6),
         (Status::TooLong { line: 1 }, 7),
         (Status::TooMuch, 8),
+        (Status::Device, 10),
     ] {
         assert_eq!(rt; status.code(), want, "{status:?}");
     }
@@ -390,6 +391,7 @@ fn each_ending_has_its_line(rt: HostRuntime) -> Result<(), Fail> {
             "opentracker: line 18446744073709551615: too long\n",
         ),
         (Status::TooMuch, "opentracker: too much input\n"),
+        (Status::Device, "opentracker: device fault\n"),
     ] {
         let mut err = MemSink::with_capacity(rt.alloc(), 100, 7, &[])?;
         report(status, &mut err);

@@ -8,8 +8,10 @@ pub mod datagram;
 pub mod full;
 #[cfg(test)]
 mod tests;
+pub mod words;
 
 pub use cleaning::clean_all;
 pub use connection::serve;
 pub use datagram::{Outcome, carry_out};
-pub use full::{bucket_count, full_part};
+pub use full::{asks_for_all, bucket_count, full_part};
+pub use words::{Draws, Words};

@@ -10,5 +10,6 @@ mod records;
 #[cfg(test)]
 mod tests;
 
+pub use fields::read_address;
 pub use line::{TraceLine, read_line, write_line};
 pub use records::{DATAGRAM_BYTES, RECORD_BYTES, Received, Record, read_record};
