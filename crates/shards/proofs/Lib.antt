@@ -1,9 +1,10 @@
-mod PlaceLemmas
+pub mod PlaceLemmas
 mod SettingsLemmas
 mod TurnLemmas
 mod PassLemmas
+mod CallLemmas
 mod SplitLemmas
-mod PassingLemmas
+pub mod PassingLemmas
 mod JoinLemmas
 mod CloseLemmas
 pub mod Sending

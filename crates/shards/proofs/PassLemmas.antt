@@ -1,5 +1,5 @@
 -- What holds of a pass holds of it after each call.
-use Rattle.std.proofs.Common.{◌≡◌, ◌≢◌, ℕ, zero, suc, ◌+◌, ◌-◌, ◌<◌, ◌≤◌, ◌^◌, true, false, List, [], ◌∷◌, ◌++◌, All, length, map, get_or, set, refl, sym, ap, subst, ◌∙◌, arith, append_assoc}
+use Rattle.std.proofs.Common.{◌≡◌, ℕ, ◌+◌, ◌<◌, ◌^◌, true, false, List, [], ◌∷◌, ◌++◌, All, length, map, get_or, set, refl, sym, ap, subst, ◌∙◌, arith, append_assoc}
 use Rattle.std.proofs.Math.Seq.{map-set_same}
 use Rattle.std.proofs.lemmas.List.{get_or-map, get_or-set_same, length-map, length-set, map-set}
 use Rattle.std.proofs.lemmas.List.Elements.{All-map, All-set, All-weaker}
@@ -10,9 +10,8 @@ use Rattle.tracker_model.specs.Settings.{Settings}
 use Rattle.tracker_model.specs.declared.entry.Entry.{Entry}
 use Rattle.turn_lock.specs.Histories.{AllBelow, GoesOn, NoneBy}
 use Rattle.turn_lock.specs.Shape.{LockShape, TurnShape, IsSpare, first_turn, new_turn}
-use Rattle.shards.specs.Histories.{IsJoinedTurn}
 use Rattle.shards.specs.Shape.{AreShards, IsAlike, IsLockFor, IsPass, ShardsShape, joined_of}
-use Rattle.shards.proofs.TurnLemmas.{lock_of, seen_of, locks_hold, locks_stay, read_all, joined_first, joined_set, joined_stay, none_joined}
+use Rattle.shards.proofs.TurnLemmas.{lock_of, seen_of, locks_hold, locks_stay, read_all, joined_set, joined_stay, none_joined}
 
 -- ---- a turn that has seen more
 

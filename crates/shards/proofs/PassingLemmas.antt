@@ -1,5 +1,5 @@
 -- Histories grow by the calls that are made through a pass.
-use Rattle.std.proofs.Common.{◌≡◌, ℕ, suc, List, [], ◌∷◌, length, refl, ap, subst, ◌∙◌}
+use Rattle.std.proofs.Common.{◌≡◌, ℕ, suc, List, [], ◌∷◌, refl, ap, subst, ◌∙◌}
 use Rattle.ot_base.specs.declared.minute.Minute.{Minute}
 use Rattle.tracker_model.specs.Grows.{GrowsAmong, Move, OthersBetween, Step}
 use Rattle.tracker_model.specs.Making.{Makes}
@@ -13,7 +13,7 @@ use Rattle.shards.specs.Passing.{MadeByPass, PassFollows}
 use Rattle.shards.specs.Shape.{PassShape}
 
 -- what comes between is of others
-others_alone : (g : Settings) (caller : ℕ) (joined : List ℕ) (old : List (List Entry)) (move : Move) (new : List (List Entry)) → Step (NoneBy (caller ∷ joined)) g caller old move new → Step (OthersBetween caller) g caller old move new
+pub others_alone : (g : Settings) (caller : ℕ) (joined : List ℕ) (old : List (List Entry)) (move : Move) (new : List (List Entry)) → Step (NoneBy (caller ∷ joined)) g caller old move new → Step (OthersBetween caller) g caller old move new
 others_alone g caller joined old move new step = record {
   others = step.others;
   own = step.own;

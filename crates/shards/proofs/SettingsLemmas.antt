@@ -1,7 +1,6 @@
 -- The settings of a bucket, as its lock has them.
-use Rattle.std.proofs.Common.{◌≡◌, ℕ, ◌<◌, Bool, true, false, if◌then◌else◌, List, [], ◌∷◌, All, length, get_or, refl, ap, subst, ◌∙◌, arith}
+use Rattle.std.proofs.Common.{◌≡◌, ℕ, ◌<◌, Bool, true, false, if◌then◌else◌, List, All, length, get_or, refl, ap, subst, ◌∙◌, arith}
 use Rattle.std.proofs.lemmas.List.Elements.{All-get_or}
-use Rattle.ot_base.specs.declared.peer.Limits.{Limits}
 use Rattle.tracker_model.specs.Settings.{Settings}
 use Rattle.tracker_model.specs.Legal.{IsLegalHistory}
 use Rattle.tracker_model.specs.Shape.{Shape}

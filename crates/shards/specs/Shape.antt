@@ -1,5 +1,5 @@
 -- What contracts see of shards and of the passes of their callers.
-use Rattle.std.specs.Prelude.{◌≡◌, ◌+◌, ◌<◌, ◌≤◌, ◌^◌, ◌∷◌, ℕ, Bool, true, false, if◌then◌else◌, List, [], All, length, map}
+use Rattle.std.specs.Prelude.{◌≡◌, ◌<◌, ◌≤◌, ◌^◌, ◌∷◌, ℕ, false, if◌then◌else◌, List, [], All, length, map}
 use Rattle.std.specs.List.{range_with_len}
 use Rattle.tracker_model.specs.Settings.{Settings}
 use Rattle.tracker_model.specs.declared.entry.Entry.{Entry}

@@ -1,20 +1,20 @@
 //! Calls.
 
-ghost use Rattle.std.specs.Prelude.{◌≡◌, ◌<◌, ◌≤◌, ◌^◌, ◌+◌, ◌∷◌, length, true};
+ghost use Rattle.std.specs.Prelude.{◌≡◌, ◌<◌, ◌≤◌, ◌^◌, ◌+◌, length, true};
 ghost use Rattle.bucket.specs.Public.{is_own};
 ghost use Rattle.ot_base.specs.Hash.{first_bits};
+ghost use Rattle.shards.specs.Passing.{MadeByPass};
 ghost use Rattle.shards.specs.Shape.{KnowsNumbers};
 ghost use Rattle.tracker_model.specs.Calls.{IsWellFormed, is_request};
-ghost use Rattle.tracker_model.specs.Grows.{Step, history_at};
+ghost use Rattle.tracker_model.specs.Grows.{history_at};
 ghost use Rattle.tracker_model.specs.Kinds.{IsKindOf};
 ghost use Rattle.tracker_model.specs.Placed.{bucket_for, bucket_in};
-ghost use Rattle.turn_lock.specs.Histories.{NoneBy};
 
 use crate::pass::Pass;
 use crate::shards::Shards;
 use ot_base::{InfoHash, Minute, bucket_of};
 use std::sync::Wait;
-use tracker_model::{Answer, Call, Entry};
+use tracker_model::{Answer, Call};
 
 /// What a call gives.
 #[derive(Drop)]
@@ -31,6 +31,9 @@ impl Shards {
     /// history goes on with calls of others, of which none is joined to the pass, and then with
     /// this one, which is answered right just there. An announce is told the peers that `words`
     /// choose.
+    // Both are inlined: an answer that came out of a function would be moved once more, and answers
+    // are large.
+    #[inline(always)]
     pub fn call<R: Wait>(
         &self,
         rt: &R,
@@ -44,18 +47,8 @@ impl Shards {
         requires named { is_request call ≡ true }
         ensures bucket { result.bucket ≡ bucket_for (bucket_in self.now.bits) call }
         ensures kind { IsKindOf self.now.settings call result.answer }
-        ensures made { Step (NoneBy (pass.old.caller ∷ pass.old.joined)) self.now.settings
-            pass.old.caller pass.old.seen (record {
-              bucket = result.bucket;
-              entry = record {
-                caller = pass.old.caller;
-                minute = minute;
-                call = call;
-                answer = result.answer;
-              };
-            }) pass.new.seen }
+        ensures made { MadeByPass pass.old result.bucket minute call result.answer pass.new }
         ensures place { result.place + 1 ≡ length (history_at pass.new.seen result.bucket) }
-        ensures pass { pass.new ≡ record pass.old { seen = pass.new.seen } }
         ensures known { KnowsNumbers pass.new }
     {
         let bucket = place_of(self.bits, &call);
@@ -64,6 +57,7 @@ impl Shards {
 
     /// The same on a named bucket, and for scans and cleanings too. A torrent that is named has to
     /// belong to the bucket.
+    #[inline(always)]
     pub fn call_in<R: Wait>(
         &self,
         rt: &R,
@@ -81,42 +75,25 @@ impl Shards {
             bucket ≡ bucket_for (bucket_in self.now.bits) call }
         ensures bucket { result.bucket ≡ bucket }
         ensures kind { IsKindOf self.now.settings call result.answer }
-        ensures made { Step (NoneBy (pass.old.caller ∷ pass.old.joined)) self.now.settings
-            pass.old.caller pass.old.seen (record {
-              bucket = bucket;
-              entry = record {
-                caller = pass.old.caller;
-                minute = minute;
-                call = call;
-                answer = result.answer;
-              };
-            }) pass.new.seen }
+        ensures made { MadeByPass pass.old bucket minute call result.answer pass.new }
         ensures place { result.place + 1 ≡ length (history_at pass.new.seen bucket) }
-        ensures pass { pass.new ≡ record pass.old { seen = pass.new.seen } }
         ensures known { KnowsNumbers pass.new }
     {
-        let caller = pass.caller;
         let lock = &self.locks[bucket as usize];
         let turn = &mut pass.turns[bucket as usize];
         let mut kept = lock.take(rt, turn);
-        // The answer is made in its entry, and moved once more, into what is returned.
-        let entry = Entry {
-            caller,
-            minute,
-            call,
-            answer: kept.call(caller, minute, call, words),
-        };
-        let place = lock.give(turn, kept, &entry);
-        Done {
+        let mut done = Done {
             bucket,
-            place,
-            answer: entry.answer,
-        }
+            place: 0,
+            answer: kept.call(pass.caller, minute, call, words),
+        };
+        done.place = lock.give(turn, kept, minute, &call, &done.answer);
+        done
     }
 }
 
 /// The bucket of the torrent that a call names, and 0 where it names none.
-fn place_of(bits: u32, call: &Call) -> u32
+pub(crate) fn place_of(bits: u32, call: &Call) -> u32
     requires { bits ≤ 10 }
     ensures place { result ≡ bucket_for (bucket_in bits) call.now }
     ensures within { result < 2 ^ bits }
@@ -131,7 +108,7 @@ fn place_of(bits: u32, call: &Call) -> u32
 }
 
 /// The bucket of a torrent.
-fn place_in(hash: InfoHash, bits: u32) -> u32
+pub(crate) fn place_in(hash: InfoHash, bits: u32) -> u32
     requires { bits ≤ 10 }
     ensures place { result ≡ bucket_in bits hash }
     ensures within { result < 2 ^ bits }

@@ -8,6 +8,7 @@ mod close;
 mod join;
 pub mod laws;
 mod pass;
+mod scrape;
 mod seat;
 mod shards;
 mod split;

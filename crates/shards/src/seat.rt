@@ -2,6 +2,7 @@
 
 ghost use Rattle.std.specs.Prelude.{◌≡◌};
 
+use crate::call::place_of;
 use crate::pass::Pass;
 use crate::shards::Shards;
 use ot_base::{Counts, InfoHash, Minute, Rows};
@@ -34,22 +35,22 @@ impl<R: Wait> Tracker for Seat<'_, R> {
         shards.bits
     }
 
+    // It makes the call itself: an answer that came out of a function beside it would be moved once
+    // more, and answers are large.
     fn report(&mut self, minute: Minute, call: Call, words: &[u32; 200]) -> Answer {
-        self.shards
-            .call(self.rt, self.pass, minute, call, words)
-            .answer
+        let shards = self.shards;
+        let pass = &mut *self.pass;
+        let bucket = place_of(shards.bits, &call);
+        let lock = &shards.locks[bucket as usize];
+        let turn = &mut pass.turns[bucket as usize];
+        let mut kept = lock.take(self.rt, turn);
+        let answer = kept.call(pass.caller, minute, call, words);
+        lock.give(turn, kept, minute, &call, &answer);
+        answer
     }
 
     fn scrape(&mut self, minute: Minute, hash: &InfoHash) -> (Counts, bool) {
-        let call = Call::Scrape { hash: *hash };
-        match self
-            .shards
-            .call(self.rt, self.pass, minute, call, NO_WORDS)
-            .answer
-        {
-            Answer::Stats { counts, known } => (counts, known),
-            _ => unreachable!(),
-        }
+        self.shards.scrape(self.rt, self.pass, minute, hash)
     }
 
     fn scan(&mut self, bucket: u32, minute: Minute) -> Result<Rows, AllocError> {

@@ -1,6 +1,9 @@
 -- What contracts see of a lock and of its turns.
 use Rattle.std.specs.Prelude.{◌≡◌, ◌<◌, ◌≤◌, ℕ, Bool, false, List, []}
 use Rattle.atomic_table.specs.Seated.{TableId}
+use Rattle.ot_base.specs.declared.minute.Minute.{Minute}
+use Rattle.tracker_model.specs.declared.answer.Answer.{Answer}
+use Rattle.tracker_model.specs.declared.call.Call.{Call}
 use Rattle.tracker_model.specs.declared.entry.Entry.{Entry}
 use Rattle.turn_lock.specs.Histories.{AllBelow}
 
@@ -55,3 +58,12 @@ new_turn lock caller seen = record {
 -- the turn that a lock begins with
 abbrev pub first_turn : LockShape → TurnShape
 first_turn lock = record (new_turn lock 0 []) { free = 1 }
+
+-- the entry of a call
+abbrev pub entry_of : (caller : ℕ) → Minute → Call → Answer → Entry
+entry_of caller minute call answer = record {
+  caller = caller;
+  minute = minute;
+  call = call;
+  answer = answer;
+}

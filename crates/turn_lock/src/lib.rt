@@ -3,6 +3,7 @@
 //! each caller knows a beginning of the one history, with all its own entries.
 #![tactic(auto)]
 
+mod answers;
 mod board;
 mod know;
 pub mod laws;
@@ -13,5 +14,6 @@ mod steps;
 mod tests;
 mod turn;
 
+pub use answers::AsAnswer;
 pub use lock::TurnLock;
 pub use turn::Turn;

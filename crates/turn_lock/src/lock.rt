@@ -3,17 +3,19 @@
 ghost use Rattle.std.specs.Prelude.{◌≡◌, ◌≢◌, ◌+◌, ◌⊎◌, ◌≤◌, true, false, [], ◌∷◌, ◌++◌, length, IfOk};
 ghost use Rattle.tracker_model.specs.Grows.{OthersBetween};
 ghost use Rattle.turn_lock.specs.Histories.{GoesOn};
-ghost use Rattle.turn_lock.specs.Shape.{IsSpare, KnowsCallers, first_turn, new_turn};
+ghost use Rattle.turn_lock.specs.Shape.{IsSpare, KnowsCallers, entry_of, first_turn, new_turn};
 
+use crate::answers::AsAnswer;
 use crate::board::{Board, Key, SLOT};
 use crate::steps::{advance, cut, draw, finish, merge, wait};
 use crate::turn::Turn;
 use atomic_table::Table;
+use ot_base::Minute;
 use std::alloc::{AllocError, Global};
 use std::marker::{Brand, Model};
 use std::snapshot::Snapshot;
 use std::sync::Wait;
-use tracker_model::{Entry, Stands};
+use tracker_model::{Call, Stands};
 
 /// A lock that is taken in turns, in the order in which callers ask for it. It keeps one value,
 /// which stands for the history of all calls that were made on it. To a contract it is what tells
@@ -83,23 +85,37 @@ impl<T: Stands> TurnLock<T> {
         words.exchange(&mut turn.place, SLOT, None).unwrap()
     }
 
-    /// Puts a value back, and ends the turn with its entry, for which the value stands too. Answers
-    /// the entry's place in the history, from 0 on.
-    pub fn give(&self, turn: &mut Turn<T>, value: T, entry: &Entry) -> u64
+    /// Puts a value back, and ends the turn with the entry of its call, for which the value stands
+    /// too. Answers the entry's place in the history, from 0 on. The entry is told by its parts and
+    /// made by nobody, so an answer stays where it lies, however large it is.
+    // Where this was inlined, a caller that returns the answer moved it twice and not once, by its
+    // disassembly.
+    #[inline(never)]
+    pub fn give<A: AsAnswer>(
+        &self,
+        turn: &mut Turn<T>,
+        value: T,
+        minute: Minute,
+        call: &Call,
+        answer: &A,
+    ) -> u64
         requires lock { turn.old.lock ≡ self.now }
         requires holds { turn.old.holds ≡ true }
-        requires caller { entry.now.caller ≡ turn.old.caller }
         requires settings { T.settings value ≡ self.now.settings }
-        requires stands { T.stands value (turn.old.seen ++ entry.now ∷ []) }
+        requires stands { T.stands value (turn.old.seen
+            ++ entry_of turn.old.caller minute call.now (A.answer answer.now) ∷ []) }
         ensures place { result ≡ length turn.old.seen }
-        ensures turn { turn.new ≡
-            record turn.old { seen = turn.old.seen ++ entry.now ∷ []; holds = false } }
+        ensures turn { turn.new ≡ record turn.old {
+          seen = turn.old.seen
+              ++ entry_of turn.old.caller minute call.now (A.answer answer.now) ∷ [];
+          holds = false;
+        } }
         ensures known { KnowsCallers turn.new }
     {
         let words = &self.board.shared;
         let emptied = words.exchange(&mut turn.place, SLOT, Some(value));
         let None = emptied else { unreachable!() };
-        advance::<T, Brand>(words, &mut turn.place, entry)
+        advance::<T, A, Brand>(words, &mut turn.place, minute, call, answer)
     }
 
     /// A new turn, of a number that the turn has free. It has seen what the turn has seen, in which

@@ -4,12 +4,15 @@ ghost use Rattle.std.specs.Prelude.{◌≡◌, ◌≢◌, ◌<◌, ◌≤◌, []
 ghost use Rattle.turn_lock.specs.declared.know.Stage.TheVariants.{Free, Waits, Serves, Joins};
 ghost use Rattle.turn_lock.specs.Plays.{HasKnown, IsServed, IsSettled, kept_part, new_part};
 ghost use Rattle.turn_lock.specs.Seats.{IsSized, IsSamePlace, IsFilled};
+ghost use Rattle.turn_lock.specs.Shape.{entry_of};
 
+use crate::answers::AsAnswer;
 use crate::board::{Board, MOST_TICKETS, Place, SERVING, SLOT, TICKET, Words};
 use crate::plays::{Advance, Cut, Draw, Merge, Numbered, Settle, Told, Watch};
 use crossbeam_utils::Backoff;
+use ot_base::Minute;
 use std::sync::Wait;
-use tracker_model::{Entry, Stands};
+use tracker_model::{Call, Stands};
 
 /// Draws a ticket. After 2^62 of them it waits for ever.
 pub fn draw<T: Stands, R: Wait>(rt: &R, words: &Words<T>, place: &mut Place<T>) -> u64
@@ -61,24 +64,30 @@ pub fn wait<T: Stands, R: Wait>(rt: &R, words: &Words<T>, place: &mut Place<T>, 
     unreachable!()
 }
 
-/// Ends the turn: its entry is added, and the slot given back. Answers the entry's place.
-pub fn advance<T: Stands, J: Told>(words: &Words<T>, place: &mut Place<T>, entry: &Entry) -> u64
+/// Ends the turn: the entry of its call is added, and the slot given back. Answers the entry's
+/// place. The entry's parts tell it, and nothing reads them.
+pub fn advance<T: Stands, A: AsAnswer, J: Told>(
+    words: &Words<T>,
+    place: &mut Place<T>,
+    minute: Minute,
+    call: &Call,
+    answer: &A,
+) -> u64
     requires table { (place.old.table_id ≡ words.now.table_id) × IsSized words.now.table_id }
-    requires told { entry.now ≡ J.entry }
+    requires told { entry_of place.old.me.0.caller minute call.now (A.answer answer.now) ≡ J.entry }
     requires serves { place.old.me.0.stage ≡ Serves }
-    requires caller { entry.now.caller ≡ place.old.me.0.caller }
-    requires filled { IsFilled T.settings T.stands entry.now place.old.me }
+    requires filled { IsFilled T.settings T.stands J.entry place.old.me }
     ensures place { IsSamePlace place.old place.new }
     ensures number { result ≡ length place.old.me.0.seen }
     ensures over { place.new.me ≡ (
       record place.old.me.0 {
-        seen = place.old.me.0.seen ++ entry.now ∷ [];
+        seen = place.old.me.0.seen
+            ++ entry_of place.old.me.0.caller minute call.now (A.answer answer.now) ∷ [];
         stage = Free;
       },
       [],
     ) }
 {
-    let _entry = entry;
     words.fetch_add::<Advance<J>>(place, SERVING, 1)
 }
 

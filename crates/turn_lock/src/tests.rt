@@ -11,7 +11,7 @@ use std::sync::Wait;
 use std::test::Fail;
 use std::thread;
 use std::thread::Threads;
-use tracker_model::{Answer, Call, Entry, Stands};
+use tracker_model::{Answer, Call, Stands};
 
 /// A value that keeps its history: of each entry the caller and the minute.
 #[derive(Drop)]
@@ -68,13 +68,7 @@ fn call<R: Wait + Abort>(
 {
     let mut log = lock.take(rt, turn);
     log.calls.push((caller, count)).expect(rt, "memory");
-    let entry = Entry {
-        caller,
-        minute: Minute(count),
-        call: Call::Scan,
-        answer: Answer::Applied,
-    };
-    lock.give(turn, log, &entry)
+    lock.give(turn, log, Minute(count), &Call::Scan, &Answer::Applied)
 }
 
 fn work<R: Wait + Abort>(rt: &R, lock: &TurnLock<Log>, job: &mut Job, calls: u32)

@@ -9,7 +9,6 @@ use bucket::Bucket;
 use std::sync::atomic::{AtomicBool, Ordering};
 use std::thread;
 use std::thread::Threads;
-use tracker_model::Entry;
 use turn_lock::{Turn, TurnLock};
 
 /// Announces the caller's own peer so many times, in 256 torrents by turns.
@@ -89,15 +88,10 @@ fn hold<R: Wait>(
     let mut bucket = lock.take(rt, turn);
     taken.store(true, Ordering::SeqCst);
     let in_time = is_set_in_time(answered);
-    let entry = Entry {
-        caller: 0,
-        minute: Minute(0),
-        call: Call::Clean,
-        answer: Answer::Cleaned {
-            held: bucket.clean(0, Minute(0)),
-        },
+    let told = Answer::Cleaned {
+        held: bucket.clean(0, Minute(0)),
     };
-    lock.give(turn, bucket, &entry);
+    lock.give(turn, bucket, Minute(0), &Call::Clean, &told);
     in_time
 }
 

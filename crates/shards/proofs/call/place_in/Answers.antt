@@ -1,5 +1,5 @@
 -- The bytes of a hash are below 256.
-use Rattle.std.proofs.Common.{◌<◌, ℕ, rules, get_or}
+use Rattle.std.proofs.Common.{◌<◌, rules, get_or}
 use Rattle.shards.proofs.PlaceLemmas.{first_bits_below}
 use Rattle.shards.proofs.call.place_in.Goals as goal
 

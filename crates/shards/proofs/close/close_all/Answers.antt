@@ -1,12 +1,10 @@
-use Rattle.std.proofs.Common.{◌≡◌, ◌+◌, ◌*◌, ◌<◌, ◌≤◌, ℕ, List, [], ◌∷◌, ◌++◌, length, map, take, refl, sym, ap, ◌∙◌, rules, arith}
+use Rattle.std.proofs.Common.{◌≡◌, ◌+◌, ◌<◌, List, [], ◌∷◌, ◌++◌, length, map, sym, ap, ◌∙◌, rules, arith}
 use Rattle.std.proofs.lemmas.Iterator.{YieldsList-from_zip}
 use Rattle.std.proofs.lemmas.Iterator.Adapters.{YieldsList-from_vec}
 use Rattle.std.proofs.lemmas.Iterator.Consumers.{YieldsList-turn, YieldsList-end}
 use Rattle.std.proofs.lemmas.List.{length-map, length_push, take_all}
 use Rattle.std.proofs.lemmas.Slice.Zip.{length-zip}
-use Rattle.std.specs.List.{AllZip, sum_by, zip}
-use Rattle.tracker_model.specs.Stands.{StandsFor}
-use Rattle.tracker_model.specs.declared.entry.Entry.{Entry}
+use Rattle.std.specs.List.{sum_by}
 use Rattle.turn_lock.specs.Shape.{LockShape, TurnShape}
 use Rattle.shards.proofs.CloseLemmas.{calls_more, pair_at, seen_by, settings_more, stand_more}
 use Rattle.shards.proofs.TurnLemmas.{lock_of, seen_of}

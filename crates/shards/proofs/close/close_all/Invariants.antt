@@ -1,4 +1,4 @@
-use Rattle.std.proofs.Common.{◌≡◌, ◌≤◌, ◌<◌, ◌*◌, ◌^◌, All, length, map, sum_by, take, vec_capacity}
+use Rattle.std.proofs.Common.{◌≡◌, ◌≤◌, ◌*◌, ◌^◌, All, length, map, sum_by, take, vec_capacity}
 use Rattle.std.specs.List.{AllZip}
 use Rattle.shards.specs.Shape.{numbers_of}
 use Rattle.tracker_model.specs.Settings.{Settings}

@@ -1,5 +1,4 @@
-use Rattle.std.proofs.Common.{rules, subst, sym, ◌∙◌, ap}
-use Rattle.turn_lock.specs.Seats.{IsFilled}
+use Rattle.std.proofs.Common.{rules, sym, ap}
 use Rattle.turn_lock.proofs.StepLemmas.{advances}
 use Rattle.turn_lock.proofs.steps.advance.Goals as goal
 
@@ -8,6 +7,6 @@ fetch_add-requires g c = (
   search rules,
   search rules,
   advances g.T.Stands.settings g.T.Stands.stands _ _ _ _ _ _ c.requires.serves
-      (ap (λ x. x.caller) (sym c.requires.told) ∙ c.requires.caller)
-      (subst (λ x. IsFilled g.T.Stands.settings g.T.Stands.stands x c.args.place.now.me) c.requires.told c.requires.filled),
+      (ap (λ x. x.caller) (sym c.requires.told))
+      c.requires.filled,
 )

@@ -1,5 +1,4 @@
-use Rattle.std.proofs.Common.{◌≡◌, [], List, ℕ, map, refl, sym, ap, subst, ◌∙◌}
-use Rattle.tracker_model.specs.declared.entry.Entry.{Entry}
+use Rattle.std.proofs.Common.{◌≡◌, [], map, refl, sym, ap, subst, ◌∙◌}
 use Rattle.turn_lock.specs.Shape.{first_turn}
 use Rattle.shards.specs.Shape.{IsPass, joined_of}
 use Rattle.shards.proofs.PassLemmas.{first_is_pass, first_seen}

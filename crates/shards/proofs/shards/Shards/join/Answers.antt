@@ -1,7 +1,7 @@
-use Rattle.std.proofs.Common.{◌≡◌, ℕ, ◌+◌, ◌-◌, ◌^◌, List, ◌∷◌, length, map, refl, sym, ap, subst, ◌∙◌}
+use Rattle.std.proofs.Common.{◌≡◌, ◌-◌, ◌^◌, ◌∷◌, length, map, sym, ap, subst, ◌∙◌}
 use Rattle.tracker_model.specs.Grows.{history_at}
 use Rattle.shards.specs.Histories.{IsJoined}
-use Rattle.shards.specs.Shape.{PassShape, ShardsShape, joined_of}
+use Rattle.shards.specs.Shape.{PassShape, ShardsShape}
 use Rattle.shards.proofs.JoinLemmas.{histories_joined, joined_is_pass, joined_now}
 use Rattle.shards.proofs.PassLemmas.{count_is, seen_below}
 use Rattle.shards.proofs.TurnLemmas.{seen_of}

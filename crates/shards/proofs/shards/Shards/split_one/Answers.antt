@@ -1,7 +1,6 @@
-use Rattle.std.proofs.Common.{◌≡◌, ◌+◌, ◌<◌, ℕ, All, List, [], map, refl, sym, ap, subst, ◌∙◌}
+use Rattle.std.proofs.Common.{◌≡◌, ◌+◌, ◌<◌, All, List, map, refl, sym, ap, subst, ◌∙◌}
 use Rattle.std.proofs.lemmas.List.Elements.{All-map}
 use Rattle.tracker_model.specs.Grows.{OthersBetween}
-use Rattle.tracker_model.specs.declared.entry.Entry.{Entry}
 use Rattle.turn_lock.specs.Shape.{TurnShape}
 use Rattle.shards.specs.Shape.{IsPass, PassShape, ShardsShape, joined_of}
 use Rattle.shards.proofs.PassLemmas.{kept_is_pass, kept_turn, numbers_spare, split_is_pass, split_turn}
