@@ -9,7 +9,7 @@ use Rattle.std.specs.List.{filter, AllByRecursion}
 use Rattle.rand_core.specs.Pcg32Seed.{pcg32_seed}
 use Rattle.rand_pcg.specs.Lcg.{Lcg}
 use Rattle.rand_pcg.specs.Pcg.{pcg32, pcg32_of_seed}
-use Rattle.load_model.specs.Drawing.{IsNotNext}
+use Rattle.load_model.specs.Drawing.{AllBefore, AllFrom, IsLeft, IsNotNext, of_phase}
 use Rattle.load_model.specs.Load.{drawn, phased, requests, requests_in}
 use Rattle.load_model.specs.declared.request.Request.{Request}
 use Rattle.load_model.specs.declared.settings.DrillSettings.{DrillSettings}
@@ -20,12 +20,6 @@ use Rattle.load_model.proofs.PartLemmas.{all_weaker}
 phase_grows : (count i : ℕ) → 0 < count → i * 8 / count ≤ (i + 1) * 8 / count
 phase_grows count i some =
     (le-div_iff_mul-le {k = count} {x = i * 8 / count} {y = (i + 1) * 8} some).1 (let e = div-mul-le_self (i * 8) count in omega arith)
-
-abbrev pub AllFrom : ℕ → List (ℕ × Request) → Type 0
-AllFrom phase xs = AllByRecursion (λ x. phase ≤ x.0) xs
-
-abbrev pub AllBefore : ℕ → List (ℕ × Request) → Type 0
-AllBefore phase xs = AllByRecursion (λ x. x.0 < phase) xs
 
 from_less : (a b : ℕ) → a ≤ b → (xs : List (ℕ × Request)) → AllFrom b xs → AllFrom a xs
 from_less a b le = all_weaker (λ x. b ≤ x.0) (λ x. a ≤ x.0) (λ x from. let e : b ≤ x.0 = from in omega arith)
@@ -74,24 +68,12 @@ requests_below s = phased_below s.count 0 (drawn (pcg32_of_seed (pcg32_seed 16 s
 
 -- ---- drawn phase by phase
 
--- the requests that are left before a phase, when so many were drawn
-pub record IsLeft (s : DrillSettings) (phase drew : ℕ) (left : List (ℕ × Request)) : Type 0 where
-  pub front : List (ℕ × Request)
-  pub many : length front ≡ drew
-  pub cut : requests s ≡ front ++ left
-  pub before : AllBefore phase front
-  pub from : AllFrom phase left
-
 pub all_left : (s : DrillSettings) → IsLeft s 0 0 (requests s)
 all_left s = record { front = []; many = refl; cut = refl; before = tt; from = every (requests s) }
   where
     every : (xs : List (ℕ × Request)) → AllFrom 0 xs
     every [] = tt
     every (x ∷ xs) = (omega arith, every xs)
-
--- requests of one phase
-abbrev pub of_phase : ℕ → List Request → List (ℕ × Request)
-of_phase phase rs = map (λ r. (phase, r)) rs
 
 all_of_phase : (P : ℕ → Type 0) (phase : ℕ) (rs : List Request) → P phase → AllByRecursion (λ x. P x.0) (of_phase phase rs)
 all_of_phase P phase [] is = tt
