@@ -1,5 +1,5 @@
 -- What was read piece by piece.
-use Rattle.std.proofs.Common.{◌≡◌, ◌∙◌, ℕ, ◌-◌, ◌≤◌, List, ◌++◌, ap, arith, length, length-append, subst, sym, take}
+use Rattle.std.proofs.Common.{◌≡◌, ◌∙◌, ℕ, ◌-◌, ◌≤◌, List, ap, arith, length, length-append, subst, sym}
 use Rattle.std.proofs.lemmas.Bool.Decides.{nat_tests}
 use Rattle.std.proofs.lemmas.List.{length-take-le}
 use Rattle.std.specs.Prelude.{Bool, Option, nat_le, true, false, if◌then◌else◌}
@@ -16,8 +16,7 @@ use Rattle.std.proofs.KnownBytes.{Consumes-kept, Consumes-trans}
 use Rattle.ot_io.specs.Content.{Aside}
 use Rattle.ot_io.specs.Counts.{Rose}
 use Rattle.ot_io.specs.Pieces.{EndsOnlyCounted}
-use Rattle.ot_io.specs.declared.source.Piece.{Piece}
-use Rattle.ot_io.specs.declared.source.Piece.TheVariants.{Got, End, Failed}
+use Rattle.ot_io.specs.declared.source.Piece.TheVariants.{Got, End}
 use Rattle.serve.specs.Reading.{AddsPiece, Left}
 
 -- what is seen of a connection as a source
@@ -54,6 +53,9 @@ module _ (old now new : Seen) (read read' : List ℕ) (it : IsReading old now re
   read_all most added =
       let P : List ℕ → Type 0 = λ l. Consumes old.left new.left l in
       subst P (sym added.2) (Consumes-kept old.left now.left new.left read it.consumed added.0)
+
+  pub read_within : (most : ℕ) → AddsPiece most now.left new.left End read read' → length read' ≤ 8192
+  read_within most added = omega (arith, it.within, ap length added.2)
 
   pub end_told : EndsOnlyCounted now.ends new.ends End → Rose old.ends new.ends
   end_told told = omega (arith, it.ended, told.1)

@@ -8,9 +8,10 @@ ghost use Rattle.tracker_model.specs.Calls.{IsWellFormed};
 ghost use Rattle.request_handler.specs.Datagram.{HasRoom};
 ghost use Rattle.serve.specs.Datagram.{Carries, FaultsAreCounted, IdlesAreCounted, Serves};
 
+use crate::scratch::Scratch;
 use access_list::AccessList;
 use ot_base::{Family, Minute, Secret};
-use ot_io::{Clock, DATAGRAM_LEN, Recv, Sent, Wire};
+use ot_io::{Clock, Recv, Sent, Wire};
 use request_handler::{Outcome, carry_out};
 use shards::laws::seat_follows;
 use shards::{Pass, Seat, Shards};
@@ -37,25 +38,9 @@ pub enum Served {
     NoMemory,
 }
 
-/// Room for a datagram and for its reply.
-#[derive(Drop)]
-pub(crate) struct Room {
-    datagram: [u8; DATAGRAM_LEN],
-    reply: [u8; REPLY_ROOM],
-}
-
-impl Room {
-    pub(crate) fn new() -> Room {
-        Room {
-            datagram: [0; DATAGRAM_LEN],
-            reply: [0; REPLY_ROOM],
-        }
-    }
-}
-
 /// Serves one datagram: receives it, reads the clock once, makes the calls that its plan asks for,
-/// and sends the one reply to where it came from. An announce is told the peers that `words`
-/// choose.
+/// and sends the one reply to where it came from. An announce is told the peers that the
+/// scratch's words choose.
 ///
 /// Want of memory comes only to an announce or a stop.
 pub fn serve_datagram<R: Wait, W: Wire, C: Clock>(
@@ -66,7 +51,7 @@ pub fn serve_datagram<R: Wait, W: Wire, C: Clock>(
     clock: &mut C,
     secret: &Secret,
     access: Option<&AccessList>,
-    words: &[u32; 200],
+    scratch: &mut Scratch,
 ) -> Served
     requires pass { pass.old.shards ≡ shards.now }
     requires alone { shards.now.settings.sync ≡ false }
@@ -79,8 +64,7 @@ pub fn serve_datagram<R: Wait, W: Wire, C: Clock>(
     ensures faults { FaultsAreCounted (W.faults wire.old) (W.faults wire.new) result }
     ensures idles { IdlesAreCounted (W.idles wire.old) (W.idles wire.new) result }
 {
-    let mut room = Room::new();
-    let (len, from) = match wire.recv(&mut room.datagram) {
+    let (len, from) = match wire.recv(&mut scratch.datagram) {
         Recv::Got { len, from } => (len, from),
         Recv::Idle => return Served::Idle,
         Recv::Failed => return Served::RecvFault,
@@ -89,11 +73,13 @@ pub fn serve_datagram<R: Wait, W: Wire, C: Clock>(
         return Served::Unbuilt;
     }
     let minute = Minute::of_seconds(clock.now());
-    let plan = plan_udp(&room.datagram[..len], from, minute, secret, access);
-    match carry(rt, shards, pass, minute, &plan, words, &mut room.reply) {
+    let plan = plan_udp(&scratch.datagram[..len], from, minute, secret, access);
+    scratch.words.draw_for_datagram(&plan);
+    let words = scratch.words.last();
+    match carry(rt, shards, pass, minute, &plan, words, &mut scratch.reply) {
         Outcome::Silent(quiet) => Served::Silent(quiet),
         Outcome::NoMemory => Served::NoMemory,
-        Outcome::Replied(len) => match wire.send(from, &room.reply[..len]) {
+        Outcome::Replied(len) => match wire.send(from, &scratch.reply[..len]) {
             Sent::Done => Served::Sent,
             Sent::Failed => Served::SendFault,
         },

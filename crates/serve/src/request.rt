@@ -1,6 +1,7 @@
 //! How the request of a connection is read.
 
 ghost use Rattle.std.specs.Prelude.{◌≡◌, ◌<◌, ◌≤◌, ◌↔◌, IfOk, IfSome, IsTrue, None, Ok, Some, option_copied};
+ghost use Rattle.std.specs.Io.KnownBytes.{IsAtEnd};
 ghost use Rattle.std.specs.List.{AllByRecursion};
 ghost use Rattle.ot_base.specs.Address.{family_of};
 ghost use Rattle.ot_base.specs.declared.address.Family.TheVariants.{Four};
@@ -40,6 +41,7 @@ pub fn read_plan<N: Conn>(
         IfSome plan (λ p. AllByRecursion IsWellFormed (connection_calls p))) }
     ensures complete { IfOk result (λ plan. IfSome plan IsCompleteConnection) }
     ensures cut { result ≡ Ok (Some More) → Rose (N.ends conn.old) (N.ends conn.new) }
+    ensures all { result ≡ Ok (Some More) → IsAtEnd (N.left conn.new) }
     ensures fault { result ≡ Ok None →
         Rose (N.Source.faults conn.old) (N.Source.faults conn.new) }
     ensures counted { N.Source.faults conn.old ≤ N.Source.faults conn.new }

@@ -3,6 +3,9 @@
 ghost use Rattle.std.specs.Prelude.{◌≡◌, IfOk, false};
 ghost use Rattle.shards.specs.Shape.{first_pass};
 
+mod connections;
+mod workers;
+
 use super::*;
 use http_wire::Code;
 use ot_base::{Addr, Endpoint, Limits, Secret};
@@ -35,16 +38,18 @@ const SCRAPE: &[u8] = b"\xa6\xee\x5e\x33\x88\xa9\x73\x31\x00\x00\x00\x02\x00\x00
 const SCRAPED: &[u8] = b"\x00\x00\x00\x02\x00\x00\x00\x08\
     \x00\x00\x00\x00\x00\x00\x00\x00\x00\x00\x00\x00";
 
+/// How much each bucket holds.
+const LIMITS: Limits = Limits {
+    peers: 100_000,
+    torrents: 65_536,
+};
+
 /// Buckets that nobody has called, and the pass that they begin with.
 fn shards(alloc: Global) -> Result<(Shards, Pass), AllocError>
     ensures alone { IfOk result (λ r. r.0.settings.sync ≡ false) }
     ensures pass { IfOk result (λ r. r.1 ≡ first_pass r.0) }
 {
-    let limits = Limits {
-        peers: 100_000,
-        torrents: 65_536,
-    };
-    Shards::new(alloc, 2, limits, false, 1)
+    Shards::new(alloc, 2, LIMITS, false, 1)
 }
 
 /// A wire at which these wait, each from its sender, of which the calls of these numbers fail.
@@ -79,6 +84,7 @@ fn serve_each<R: Wait + Abort>(
 ) -> Result<(), AllocError> {
     let (shards, mut pass) = shards(alloc)?;
     let mut clock = MemClock::new(0, 1);
+    let mut scratch = Scratch::new(0);
     'served: for (number, want) in want.iter().enumerate() {
         let served = serve_datagram(
             rt,
@@ -88,7 +94,7 @@ fn serve_each<R: Wait + Abort>(
             &mut clock,
             &Secret([0; 20]),
             None,
-            &[0; 200],
+            &mut scratch,
         );
         assert_eq!(rt; served, *want, "{number}");
     }
