@@ -13,10 +13,13 @@ use ot_io::{Sink, Source, Status, report};
 use std::alloc::{AllocError, Global};
 use std::env::Args;
 use std::io;
+use std::sync::Wait;
+use std::thread::Threads;
 
 /// Runs what the arguments ask for, of which the first is the program's name, and gives the number
 /// that the process ends with.
-pub fn run_args<S: Source, O: Sink, E: Sink>(
+pub fn run_args<R: Threads + Wait + Sync, S: Source, O: Sink, E: Sink>(
+    rt: &R,
     alloc: Global,
     args: io::Result<Args>,
     input: &mut S,
@@ -33,11 +36,12 @@ pub fn run_args<S: Source, O: Sink, E: Sink>(
         × TellsLine (E.written err.old) (E.written err.new)
         (E.faults err.old) (E.faults err.new) (status_text status) }
 {
-    run_asked(alloc, args, input, out, err).code()
+    run_asked(rt, alloc, args, input, out, err).code()
 }
 
 /// Runs what the arguments ask for, or tells that they can't be read.
-fn run_asked<S: Source, O: Sink, E: Sink>(
+fn run_asked<R: Threads + Wait + Sync, S: Source, O: Sink, E: Sink>(
+    rt: &R,
     alloc: Global,
     args: io::Result<Args>,
     input: &mut S,
@@ -54,13 +58,14 @@ fn run_asked<S: Source, O: Sink, E: Sink>(
         (E.faults err.old) (E.faults err.new) (status_text result) }
 {
     match args {
-        Ok(args) => run_read(alloc, args, input, out, err),
+        Ok(args) => run_read(rt, alloc, args, input, out, err),
         Err(error) => tell(unread_status(&error), err),
     }
 }
 
 /// Runs what arguments ask for that could be read.
-fn run_read<S: Source, O: Sink, E: Sink>(
+fn run_read<R: Threads + Wait + Sync, S: Source, O: Sink, E: Sink>(
+    rt: &R,
     alloc: Global,
     args: Args,
     input: &mut S,
@@ -74,7 +79,7 @@ fn run_read<S: Source, O: Sink, E: Sink>(
         (E.faults err.old) (E.faults err.new) (status_text result) }
 {
     match texts_of(alloc, args) {
-        Ok(texts) => run_texts(alloc, behind_name(&texts), input, out, err),
+        Ok(texts) => run_texts(rt, alloc, behind_name(&texts), input, out, err),
         Err(_) => tell(Status::NoMemory, err),
     }
 }
@@ -101,7 +106,8 @@ fn behind_name(args: &[String]) -> &[String]
 }
 
 /// Runs what these texts ask for.
-fn run_texts<S: Source, O: Sink, E: Sink>(
+fn run_texts<R: Threads + Wait + Sync, S: Source, O: Sink, E: Sink>(
+    rt: &R,
     alloc: Global,
     texts: &[String],
     input: &mut S,
@@ -114,7 +120,7 @@ fn run_texts<S: Source, O: Sink, E: Sink>(
         (E.faults err.old) (E.faults err.new) (status_text result) }
 {
     match words_of(alloc, texts) {
-        Ok(words) => run(alloc, &words, input, out, err),
+        Ok(words) => run(rt, alloc, &words, input, out, err),
         Err(_) => tell(Status::NoMemory, err),
     }
 }

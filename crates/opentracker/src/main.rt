@@ -8,7 +8,6 @@ mod arguments;
 mod run;
 #[cfg(test)]
 mod tests;
-mod words;
 
 use arguments::run_args;
 use ot_io::{StdSink, StdSource};
@@ -20,5 +19,5 @@ fn main(rt: HostRuntime) -> ExitCode {
     let mut out = StdSink::new(rt.stdout());
     let mut err = StdSink::new(rt.stderr());
     let args = env::args(&rt);
-    ExitCode::from(run_args(rt.alloc(), args, &mut input, &mut out, &mut err))
+    ExitCode::from(run_args(&rt, rt.alloc(), args, &mut input, &mut out, &mut err))
 }

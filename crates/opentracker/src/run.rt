@@ -1,19 +1,23 @@
 //! The top call: the run that words ask for.
 
-ghost use Rattle.std.specs.Prelude.{◌≡◌, List, Ok, IfOk, drop, map, string_bytes};
+ghost use Rattle.std.specs.Prelude.{◌≡◌, map};
+ghost use Rattle.command_line.specs.Words.{command_of};
 ghost use Rattle.lines.specs.Streams.{IsLaterSink, IsLaterSource};
 ghost use Rattle.ot_io.specs.Message.{TellsLine, status_text};
 ghost use Rattle.opentracker.specs.Run.{IsRun, words_status};
-ghost use Rattle.opentracker.specs.Words.{command_of};
 
-use crate::words::{Command, WordsFault, read_words};
+use command_line::{Command, WordsFault, read_words};
+use drill::run_drill;
 use offline::run_offline;
 use ot_io::{Sink, Source, Status, report};
 use std::alloc::Global;
+use std::sync::Wait;
+use std::thread::Threads;
 
 /// Reads the words, runs the command that they ask for, and tells on `err` how it ended. A failure
 /// of `err` changes nothing else.
-pub fn run<S: Source, O: Sink, E: Sink>(
+pub fn run<R: Threads + Wait + Sync, S: Source, O: Sink, E: Sink>(
+    rt: &R,
     alloc: Global,
     words: &[&str],
     input: &mut S,
@@ -31,6 +35,8 @@ pub fn run<S: Source, O: Sink, E: Sink>(
 {
     match read_words(words) {
         Ok(Command::Offline(command)) => run_offline(alloc, &command, input, out, err),
+        Ok(Command::Drill(settings)) => run_drill(rt, alloc, &settings, out, err),
+        Ok(Command::Serve(_)) => refuse(WordsFault::At(0), err),
         Err(fault) => refuse(fault, err),
     }
 }
