@@ -14,7 +14,10 @@ use ot_base::Minute;
 use std::sync::Wait;
 use tracker_model::{Call, Stands};
 
-/// Draws a ticket. After 2^62 of them it waits for ever.
+/// Draws a ticket, once the words show that all that were drawn before are served to their end.
+/// Tickets are served in their order, and a thread that has drawn one may not be running when its
+/// turn comes, so all others would wait until the system finds it. One that draws so late is
+/// running, and mostly served at once. After 2^62 tickets this waits for ever.
 pub fn draw<T: Stands, R: Wait>(rt: &R, words: &Words<T>, place: &mut Place<T>) -> u64
     requires table { (place.old.table_id ≡ words.now.table_id) × IsSized words.now.table_id }
     requires free { place.old.me.0.stage ≡ Free }
@@ -24,8 +27,10 @@ pub fn draw<T: Stands, R: Wait>(rt: &R, words: &Words<T>, place: &mut Place<T>) 
 {
     let backoff = Backoff::new();
     for _ in rt.forever() {
+        let served = words.peek(SERVING);
         let ticket = words.peek(TICKET);
         if ticket < MOST_TICKETS
+            && ticket == served
             && words.compare_exchange::<Draw>(place, TICKET, ticket, ticket + 1) == ticket
         {
             return ticket;
