@@ -16,7 +16,7 @@ use Rattle.load_model.specs.declared.request.Request.{Request}
 use Rattle.load_model.proofs.PartLemmas.{all_weaker}
 use Rattle.drill.specs.Asking.{Asks, IsAsked}
 use Rattle.drill.specs.Dealing.{Deals, share_of}
-use Rattle.drill.specs.Joining.{AreJoined, HasAllOf}
+use Rattle.shards.specs.Joining.{AreJoined, HoldAllOf}
 use Rattle.drill.specs.Phases.{HasMade, HaveMade, IsAlone, IsNoneOf}
 use Rattle.drill.specs.Working.{AllWork}
 use Rattle.drill.specs.declared.worker.Worker.{Worker}
@@ -164,11 +164,11 @@ module _ (minute : Minute) (phase workers : ℕ) (some : 1 ≤ workers) (load le
   caller_of : (i : ℕ) (d : Worker) → i < workers → (get_or worked i d).pass.caller ≡ old.free + i
   caller_of i d few = ap (λ (p : PassShape). p.caller) (asks i d few).pass
 
-  joined_of_all : (i : ℕ) (d : Worker) → i < workers → HasAllOf new (get_or worked i d).pass
+  joined_of_all : (i : ℕ) (d : Worker) → i < workers → HoldAllOf new.seen (get_or worked i d).pass
   joined_of_all i d few =
       let within : i < length worked = rw count_worked few in
       let listed : i < length (map (λ (worker : Worker). worker.pass) worked) = rw (length-map worked (λ (worker : Worker). worker.pass)) within in
-      subst (HasAllOf new) (get_or-map (λ (worker : Worker). worker.pass) worked i d d.pass within) (all_at (HasAllOf new) (map (λ (worker : Worker). worker.pass) worked) joins.others_seen i d.pass listed)
+      subst (HoldAllOf new.seen) (get_or-map (λ (worker : Worker). worker.pass) worked i d d.pass within) (all_at (HoldAllOf new.seen) (map (λ (worker : Worker). worker.pass) worked) joins.others_seen i d.pass listed)
 
   -- ---- one bucket
 

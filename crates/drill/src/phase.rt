@@ -4,7 +4,8 @@ ghost use Rattle.std.specs.Prelude.{◌≡◌, ◌≢◌, ◌+◌, ◌≤◌, �
 ghost use Rattle.shards.specs.Shape.{KnowsNumbers};
 ghost use Rattle.load_model.specs.Load.{CanDrill};
 ghost use Rattle.load_model.specs.Text.{totals_after};
-ghost use Rattle.drill.specs.Joining.{AreJoined, HaveWorked};
+ghost use Rattle.shards.specs.Joining.{AreJoined};
+ghost use Rattle.drill.specs.Joining.{HaveWorked};
 ghost use Rattle.drill.specs.Phases.{HaveMade, IsAfter, IsAlone};
 
 use crate::deal::deal;

@@ -8,3 +8,4 @@ pub mod PassingLemmas
 mod JoinLemmas
 mod CloseLemmas
 pub mod Sending
+pub mod JoiningLemmas

@@ -1,3 +1,4 @@
 pub mod Shape
 pub mod Histories
 pub mod Passing
+pub mod Joining

@@ -2,7 +2,7 @@ use Rattle.std.proofs.Common.{◌≡◌, [], ◌∷◌, ◌++◌, List, map, sym
 use Rattle.std.proofs.lemmas.Grind.{elements}
 use Rattle.shards.specs.Shape.{PassShape}
 use Rattle.drill.specs.declared.worker.Worker.{Worker}
-use Rattle.drill.proofs.JoinLemmas.{none_joined, one_more_joined}
+use Rattle.shards.proofs.JoiningLemmas.{none_joined, one_more_joined}
 use Rattle.drill.proofs.phase.join_all.Goals as goal
 
 pub loop-worker-init : goal.loop-worker-init

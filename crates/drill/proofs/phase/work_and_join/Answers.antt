@@ -1,5 +1,5 @@
 use Rattle.std.proofs.Common.{◌≡◌, true, All, List, length, map, sym, ap, subst, ◌∙◌}
-use Rattle.drill.specs.Joining.{AreJoined}
+use Rattle.shards.specs.Joining.{AreJoined}
 use Rattle.drill.specs.Working.{AllWork}
 use Rattle.drill.specs.declared.worker.Worker.{Worker}
 use Rattle.drill.proofs.TeamLemmas.{IsOthers, passes_still, written_back}
