@@ -9,10 +9,10 @@ use Rattle.ot_net.specs.declared.waiting.Room.{Room}
 use Rattle.ot_net.specs.declared.waiting.Waiting.{Waiting}
 use Rattle.ot_net.specs.declared.wire.NetWire.{NetWire}
 
-abbrev pub wire_faults : NetWire → ℕ
+abbrev pub wire_faults : {R : Type 0} → NetWire R → ℕ
 wire_faults wire = wire.faults
 
-abbrev pub wire_idles : NetWire → ℕ
+abbrev pub wire_idles : {R : Type 0} → NetWire R → ℕ
 wire_idles wire = wire.idles
 
 -- who is at the other end of a connection

@@ -65,3 +65,11 @@ fn seconds<R: HostTime>(rt: &R) -> Option<u64> {
     let since = now.duration_since(SystemTime::UNIX_EPOCH).ok()?;
     Some(since.as_secs())
 }
+
+/// The time in seconds, from a moment that stays the same. Where the host doesn't tell it, it is 0.
+pub(crate) fn steady_seconds<R: HostTime>(rt: &R) -> u64 {
+    match rt.monotonic() {
+        Ok(time) => time.as_secs(),
+        Err(_) => 0,
+    }
+}

@@ -6,6 +6,7 @@
 
 mod address;
 mod arrivals;
+mod breather;
 mod clock;
 mod conn;
 mod listener;

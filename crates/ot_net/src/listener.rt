@@ -2,6 +2,8 @@
 
 use crate::address::endpoint;
 use crate::arrivals::Arrivals;
+use crate::breather::Breather;
+use crate::clock::steady_seconds;
 use crate::conn::NetConn;
 use crate::refusal::Refusal;
 use crate::waiting::{Room, Waiting};
@@ -15,8 +17,8 @@ use std::rt::Clock;
 /// How many new connections are looked at in one turn.
 const NEW_LOOKS: u32 = 16;
 
-/// How often it waits before it answers that none waits.
-const WAITS: u32 = 3;
+/// How long it waits before it answers that none waits, in milliseconds.
+const WHOLE_WAIT: u64 = 300;
 
 /// How long it waits each time for a new connection, in milliseconds.
 const LONG_WAIT: u64 = 100;
@@ -30,12 +32,16 @@ const SHORT_WAIT: u64 = 1;
 /// It keeps a connection until its client has sent a whole head, so that a slow one holds nobody
 /// who serves connections. One that has waited for 10 seconds is handed out as it is, and so is the
 /// one that waits longest where more than 1,024 wait or the host has no room for a new one.
+///
+/// It answers that none waits where there was none to hand out for 300 milliseconds, and about once
+/// in a second where there always is one.
 #[derive(Drop)]
 pub struct NetListener<'a, R> {
     rt: &'a R,
     socket: TcpListener,
     arrivals: Arrivals,
     room: Room,
+    breather: Breather,
     pub(crate) faults: u64,
     pub(crate) idles: u64,
 }
@@ -70,6 +76,7 @@ impl<'a, R> NetListener<'a, R> {
             socket,
             arrivals,
             room: Room::new(rt.alloc())?,
+            breather: Breather::new(),
             faults: 0,
             idles: 0,
         })
@@ -107,21 +114,27 @@ impl<R: Clock> NetListener<'_, R> {
     ghost use Rattle.ot_net.specs.Adapters.{client_of, conn_ends, conn_faults};
     ghost use Rattle.ot_net.specs.Adapters.{listener_faults, listener_idles};
 
-    /// Looks for a connection, and waits a few times for one.
+    /// Looks for a connection, and waits for one, but not where a breath is due.
     fn await_one(&mut self) -> Found
         ensures faults { listener_faults self.new ≡ listener_faults self.old }
         ensures idles { listener_idles self.new ≡ listener_idles self.old }
     {
-        for _ in 0..WAITS {
+        if self.breather.is_due(self.rt) {
+            return Found::Nothing;
+        }
+        let mut left = WHOLE_WAIT;
+        // Each wait is one of a millisecond at least.
+        for _ in 0..WHOLE_WAIT {
             match self.find() {
-                Found::Nothing => self.wait(),
+                Found::Nothing if left > 0 => left = left.saturating_sub(self.wait()),
                 found => return found,
             }
         }
         self.find()
     }
 
-    fn wait(&mut self)
+    /// Waits for a new connection. How long it does at most, in milliseconds.
+    fn wait(&mut self) -> u64
         ensures faults { listener_faults self.new ≡ listener_faults self.old }
         ensures idles { listener_idles self.new ≡ listener_idles self.old }
     {
@@ -131,6 +144,7 @@ impl<R: Clock> NetListener<'_, R> {
             SHORT_WAIT
         };
         self.arrivals.wait(longest);
+        longest
     }
 
     /// Looks for a connection to be handed out, at the new ones first.
@@ -138,7 +152,7 @@ impl<R: Clock> NetListener<'_, R> {
         ensures faults { listener_faults self.new ≡ listener_faults self.old }
         ensures idles { listener_idles self.new ≡ listener_idles self.old }
     {
-        let now = seconds(self.rt);
+        let now = steady_seconds(self.rt);
         match self.look_at_new(now) {
             Found::Nothing => match self.room.take_next(now) {
                 Some(one) => Found::Ready(one),
@@ -274,12 +288,4 @@ fn accept_from(socket: &TcpListener, now: u64) -> io::Result<Waiting> {
         client: endpoint(&peer),
         since: now,
     })
-}
-
-/// The time in seconds, from any moment. Where the host doesn't tell it, nobody is late.
-fn seconds<R: Clock>(rt: &R) -> u64 {
-    match rt.monotonic() {
-        Ok(time) => time.as_secs(),
-        Err(_) => 0,
-    }
 }

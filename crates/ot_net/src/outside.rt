@@ -68,7 +68,7 @@ where
     ghost use Rattle.std.specs.Prelude.{None};
     ghost use Rattle.ot_net.specs.Adapters.{outside_faults};
 
-    type W = NetWire;
+    type W = NetWire<'a, R>;
 
     type L = NetListener<'a, R>;
 
@@ -80,7 +80,7 @@ where
 
     ghost faults = { outside_faults };
 
-    fn wires(&mut self, at: Endpoint, n: u32) -> Made<Vec<NetWire>> {
+    fn wires(&mut self, at: Endpoint, n: u32) -> Made<Vec<NetWire<'a, R>>> {
         let made = bind_wires(self.rt, at, n);
         self.answer(made)
     }
@@ -95,7 +95,7 @@ where
         self.answer(made)
     }
 
-    fn wire_back(&mut self, _wire: NetWire) {}
+    fn wire_back(&mut self, _wire: NetWire<'a, R>) {}
 
     fn listener_back(&mut self, _listener: NetListener<'a, R>) {}
 
@@ -105,11 +105,11 @@ where
 }
 
 /// So many wires over one socket at this address. It is closed with the last of them.
-fn bind_wires<R: Net + Alloc<A = Global>>(
-    rt: &R,
+fn bind_wires<'a, R: Net + Alloc<A = Global>>(
+    rt: &'a R,
     at: Endpoint,
     n: u32,
-) -> Result<Vec<NetWire>, Refusal>
+) -> Result<Vec<NetWire<'a, R>>, Refusal>
     ensures count { IfOk result (λ wires. vec_len wires ≡ n) }
     ensures new { IfOk result (λ wires.
         All (λ wire. (wire_faults wire ≡ 0) × (wire_idles wire ≡ 0)) wires.items) }
@@ -119,7 +119,7 @@ fn bind_wires<R: Net + Alloc<A = Global>>(
     socket.set_read_timeout(Some(Duration::from_millis(RECV_TIMEOUT)))?;
     let mut wires = Vec::with_capacity(rt.alloc(), n as usize)?;
     for _made in 0..n {
-        wires.push(NetWire::new(socket.try_clone()?, is_six))?;
+        wires.push(NetWire::new(rt, socket.try_clone()?, is_six))?;
     }
     Ok(wires)
 }

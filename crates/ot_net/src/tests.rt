@@ -2,13 +2,16 @@
 //! whole head.
 
 use super::*;
+use crate::breather::Breather;
 use crate::waiting::has_head;
 use ot_base::{Addr, Endpoint};
 use ot_io::{
     Accept, Clock, Conn, Listener, Made, Outside, Piece, Recv, Sent, Sink, Source, Wire, Wrote,
 };
+use std::io;
 use std::net::TcpStream;
 use std::test::Fail;
+use std::time::Duration;
 
 /// Loopback, at any port that is free.
 const LOOPBACK: Endpoint = Endpoint {
@@ -17,7 +20,11 @@ const LOOPBACK: Endpoint = Endpoint {
 };
 
 /// The first of so many wires at an address, if they are made.
-fn first_wire<N: Outside<W = NetWire>>(outside: &mut N, at: Endpoint, n: u32) -> Option<NetWire> {
+fn first_wire<W: Wire + Drop, N: Outside<W = W>>(
+    outside: &mut N,
+    at: Endpoint,
+    n: u32,
+) -> Option<W> {
     match outside.wires(at, n) {
         Made::Got(mut wires) => wires.pop(),
         Made::Failed | Made::NoMemory => None,
@@ -107,6 +114,48 @@ fn the_clock_tells_a_time_of_this_century(rt: HostRuntime) {
     let mut clock = HostClock::new(&rt);
     assert!(rt; clock.now() > 946_684_800);
     assert_eq!(rt; clock.faults(), 0);
+}
+
+/// A clock of the host that stands still at so many seconds.
+#[derive(Drop)]
+struct Standing(u64);
+
+impl std::rt::Clock for Standing {
+    fn monotonic(&self) -> io::Result<Duration> {
+        Ok(Duration::from_secs(self.0))
+    }
+
+    fn since_1970(&self) -> io::Result<Duration> {
+        self.monotonic()
+    }
+}
+
+/// At how many of 128 calls in this second a breath is due, and at the how manieth of them last.
+fn dues(breather: &mut Breather, second: u64) -> (u32, u32) {
+    let host = Standing(second);
+    let (mut count, mut last) = (0u32, 0);
+    for call in 1..=128u32 {
+        if breather.is_due(&host) {
+            count = count.saturating_add(1);
+            last = call;
+        }
+    }
+    (count, last)
+}
+
+#[test]
+fn a_breath_is_due_once_a_second(rt: HostRuntime) {
+    let mut breather = Breather::new();
+    for (second, want) in [
+        (0, (0, 0)),
+        (7, (1, 64)),
+        (7, (0, 0)),
+        (8, (1, 64)),
+        (6, (0, 0)),
+        (9, (1, 64)),
+    ] {
+        assert_eq!(rt; dues(&mut breather, second), want, "{second}");
+    }
 }
 
 fn is_send<T: Send + Drop>(_value: T) {}

@@ -18,7 +18,11 @@ pub const ROOM: usize = 1024;
 /// How many bytes a head has at most.
 const HEAD_LEN: usize = 8192;
 
-/// How many of those that wait are looked at in one turn, however many there are.
+/// How many of those that came last are looked at in each turn: most clients send their head at
+/// once, and it comes while they are among these.
+const YOUNG: usize = 16;
+
+/// How many of all that wait are looked at in one turn, however many there are.
 const LOOKS: u32 = 4;
 
 /// How long one waits at most, in seconds.
@@ -122,14 +126,40 @@ impl Room {
         Some(oldest)
     }
 
-    /// One that has waited too long, or else one that is ready, of the next few.
+    /// One that is ready, of those that came last. Or else one that has waited too long, or one
+    /// that is ready, of the next few.
     pub fn take_next(&mut self, now: u64) -> Option<Waiting>
         ensures { length (option_to_list result) + length (waiting_in self.new)
             ≡ length (waiting_in self.old) }
     {
+        if let Some(place) = self.ready_young() {
+            return self.waiting.remove(place);
+        }
         if self.is_late(now) {
             return self.take_oldest();
         }
+        self.look_around()
+    }
+
+    /// The place of one that is ready, of those that came last.
+    fn ready_young(&self) -> Option<usize> {
+        let count = self.waiting.len();
+        (count.saturating_sub(YOUNG)..count).find(|place| self.is_ready(*place))
+    }
+
+    /// Whether there is one at this place, and it is ready.
+    fn is_ready(&self, place: usize) -> bool {
+        match self.waiting.get(place) {
+            Some(one) => one.is_ready(),
+            None => false,
+        }
+    }
+
+    /// One that is ready, of the next few.
+    fn look_around(&mut self) -> Option<Waiting>
+        ensures { length (option_to_list result) + length (waiting_in self.new)
+            ≡ length (waiting_in self.old) }
+    {
         for _ in 0..LOOKS {
             let found = self.look();
             if found.is_some() {
@@ -148,13 +178,11 @@ impl Room {
             self.next = 0;
         }
         let place = self.next;
-        match self.waiting.get(place) {
-            Some(one) if one.is_ready() => self.waiting.remove(place),
-            _ => {
-                self.next = place.saturating_add(1);
-                None
-            }
+        if self.is_ready(place) {
+            return self.waiting.remove(place);
         }
+        self.next = place.saturating_add(1);
+        None
     }
 
     fn is_late(&self, now: u64) -> bool {

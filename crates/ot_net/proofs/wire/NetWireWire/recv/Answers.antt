@@ -4,7 +4,7 @@ use Rattle.std.proofs.lemmas.List.{take_all, length-take}
 use Rattle.ot_net.proofs.wire.NetWireWire.recv.Goals as goal
 
 pub returns-in-Ok-clause-received : goal.returns-in-Ok-clause-received
-returns-in-Ok-clause-received c =
+returns-in-Ok-clause-received g c =
     let buf = c.recv_from.new.buf in
     let within : c.in-Ok.len ≤ 2048 = search rules in
     let long : length buf ≡ 2048 = search rules in (
