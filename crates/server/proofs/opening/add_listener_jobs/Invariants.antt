@@ -1,0 +1,17 @@
+-- The jobs so far have the first passes, and as many clocks are gone.
+use Rattle.std.proofs.Common.{◌≡◌, ◌+◌, ◌++◌, ◌≤◌, List, length, vec_capacity}
+use Rattle.std.specs.Vec.Iter.{into_iter_items}
+use Rattle.shards.specs.Shape.{PassShape}
+use Rattle.server.specs.Opening.{AreLinkJobs}
+use Rattle.serve.specs.declared.job.Job.{Job}
+use Rattle.server.proofs.opening.add_listener_jobs.Given as goal
+
+abbrev pub invariant-loop-listener : goal.invariant-loop-listener
+invariant-loop-listener g l = record {
+  all : l.fn.listeners.items ≡ l.yielded ++ l.listener-iterator.rest.items;
+  jobs : (jobs : List (Job g.row.W.Denot g.row.L.Denot g.row.C.Denot)) × (done : List PassShape)
+      × (l.room.items ≡ l.fn.room.items ++ jobs) × (l.fn.passes.items ≡ done ++ into_iter_items l.passes)
+      × AreLinkJobs l.yielded done jobs;
+  clocks : length (into_iter_items l.clocks) + length l.yielded ≡ length l.fn.clocks.items;
+  capacity : vec_capacity l.fn.room ≤ vec_capacity l.room;
+}
