@@ -9,7 +9,7 @@ ghost use Rattle.std.specs.Vec.Iter.{into_iter_items};
 ghost use Rattle.opentracker.specs.Run.{IsWordsRun, IsUnread};
 
 use crate::run::run;
-use ot_io::{Sink, Source, Status, report};
+use ot_io::{Clock, Conn, Listener, Outside, Sink, Source, Status, Wire, report};
 use std::alloc::{AllocError, Global};
 use std::env::Args;
 use std::io;
@@ -18,68 +18,104 @@ use std::thread::Threads;
 
 /// Runs what the arguments ask for, of which the first is the program's name, and gives the number
 /// that the process ends with.
-pub fn run_args<R: Threads + Wait + Sync, S: Source, O: Sink, E: Sink>(
+pub fn run_args<
+    W: Wire + Send + Drop,
+    K: Conn + Send + Drop,
+    L: Listener<Link = K> + Send + Drop,
+    C: Clock + Send + Drop,
+    R: Threads + Wait + Sync,
+    S: Source + Send,
+    O: Sink,
+    E: Sink,
+    N: Outside<W = W, L = L, C = C>,
+>(
     rt: &R,
     alloc: Global,
     args: io::Result<Args>,
     input: &mut S,
     out: &mut O,
     err: &mut E,
+    outside: &mut N,
 ) -> u8
     ensures { (status : Status) × (result ≡ code_of status)
         × MatchResult args
         (λ texts. IsWordsRun S.left S.ends S.faults O.written O.faults
+        N.wires_lent N.listeners_lent N.faults
         (map string_bytes (drop 1 (into_iter_items texts)))
-        input.old input.new out.old out.new status)
+        input.old input.new out.old out.new outside.old outside.new status)
         (λ error. IsUnread (error_kind error) status
-        × (input.new ≡ input.old) × (out.new ≡ out.old))
+        × (input.new ≡ input.old) × (out.new ≡ out.old) × (outside.new ≡ outside.old))
         × TellsLine (E.written err.old) (E.written err.new)
         (E.faults err.old) (E.faults err.new) (status_text status) }
 {
-    run_asked(rt, alloc, args, input, out, err).code()
+    run_asked(rt, alloc, args, input, out, err, outside).code()
 }
 
 /// Runs what the arguments ask for, or tells that they can't be read.
-fn run_asked<R: Threads + Wait + Sync, S: Source, O: Sink, E: Sink>(
+fn run_asked<
+    W: Wire + Send + Drop,
+    K: Conn + Send + Drop,
+    L: Listener<Link = K> + Send + Drop,
+    C: Clock + Send + Drop,
+    R: Threads + Wait + Sync,
+    S: Source + Send,
+    O: Sink,
+    E: Sink,
+    N: Outside<W = W, L = L, C = C>,
+>(
     rt: &R,
     alloc: Global,
     args: io::Result<Args>,
     input: &mut S,
     out: &mut O,
     err: &mut E,
+    outside: &mut N,
 ) -> Status
     ensures ran { MatchResult args
         (λ texts. IsWordsRun S.left S.ends S.faults O.written O.faults
+        N.wires_lent N.listeners_lent N.faults
         (map string_bytes (drop 1 (into_iter_items texts)))
-        input.old input.new out.old out.new result)
+        input.old input.new out.old out.new outside.old outside.new result)
         (λ error. IsUnread (error_kind error) result
-        × (input.new ≡ input.old) × (out.new ≡ out.old)) }
+        × (input.new ≡ input.old) × (out.new ≡ out.old) × (outside.new ≡ outside.old)) }
     ensures told { TellsLine (E.written err.old) (E.written err.new)
         (E.faults err.old) (E.faults err.new) (status_text result) }
 {
     match args {
-        Ok(args) => run_read(rt, alloc, args, input, out, err),
+        Ok(args) => run_read(rt, alloc, args, input, out, err, outside),
         Err(error) => tell(unread_status(&error), err),
     }
 }
 
 /// Runs what arguments ask for that could be read.
-fn run_read<R: Threads + Wait + Sync, S: Source, O: Sink, E: Sink>(
+fn run_read<
+    W: Wire + Send + Drop,
+    K: Conn + Send + Drop,
+    L: Listener<Link = K> + Send + Drop,
+    C: Clock + Send + Drop,
+    R: Threads + Wait + Sync,
+    S: Source + Send,
+    O: Sink,
+    E: Sink,
+    N: Outside<W = W, L = L, C = C>,
+>(
     rt: &R,
     alloc: Global,
     args: Args,
     input: &mut S,
     out: &mut O,
     err: &mut E,
+    outside: &mut N,
 ) -> Status
     ensures ran { IsWordsRun S.left S.ends S.faults O.written O.faults
+        N.wires_lent N.listeners_lent N.faults
         (map string_bytes (drop 1 (into_iter_items args)))
-        input.old input.new out.old out.new result }
+        input.old input.new out.old out.new outside.old outside.new result }
     ensures told { TellsLine (E.written err.old) (E.written err.new)
         (E.faults err.old) (E.faults err.new) (status_text result) }
 {
     match texts_of(alloc, args) {
-        Ok(texts) => run_texts(rt, alloc, behind_name(&texts), input, out, err),
+        Ok(texts) => run_texts(rt, alloc, behind_name(&texts), input, out, err, outside),
         Err(_) => tell(Status::NoMemory, err),
     }
 }
@@ -106,21 +142,34 @@ fn behind_name(args: &[String]) -> &[String]
 }
 
 /// Runs what these texts ask for.
-fn run_texts<R: Threads + Wait + Sync, S: Source, O: Sink, E: Sink>(
+fn run_texts<
+    W: Wire + Send + Drop,
+    K: Conn + Send + Drop,
+    L: Listener<Link = K> + Send + Drop,
+    C: Clock + Send + Drop,
+    R: Threads + Wait + Sync,
+    S: Source + Send,
+    O: Sink,
+    E: Sink,
+    N: Outside<W = W, L = L, C = C>,
+>(
     rt: &R,
     alloc: Global,
     texts: &[String],
     input: &mut S,
     out: &mut O,
     err: &mut E,
+    outside: &mut N,
 ) -> Status
     ensures ran { IsWordsRun S.left S.ends S.faults O.written O.faults
-        (map string_bytes texts.now) input.old input.new out.old out.new result }
+        N.wires_lent N.listeners_lent N.faults
+        (map string_bytes texts.now)
+        input.old input.new out.old out.new outside.old outside.new result }
     ensures told { TellsLine (E.written err.old) (E.written err.new)
         (E.faults err.old) (E.faults err.new) (status_text result) }
 {
     match words_of(alloc, texts) {
-        Ok(words) => run(rt, alloc, &words, input, out, err),
+        Ok(words) => run(rt, alloc, &words, input, out, err, outside),
         Err(_) => tell(Status::NoMemory, err),
     }
 }

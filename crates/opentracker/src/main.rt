@@ -11,6 +11,7 @@ mod tests;
 
 use arguments::run_args;
 use ot_io::{StdSink, StdSource};
+use ot_net::HostOutside;
 use std::env;
 use std::process::ExitCode;
 
@@ -18,6 +19,15 @@ fn main(rt: HostRuntime) -> ExitCode {
     let mut input = StdSource::new(rt.stdin());
     let mut out = StdSink::new(rt.stdout());
     let mut err = StdSink::new(rt.stderr());
+    let mut outside = HostOutside::new(&rt);
     let args = env::args(&rt);
-    ExitCode::from(run_args(&rt, rt.alloc(), args, &mut input, &mut out, &mut err))
+    ExitCode::from(run_args(
+        &rt,
+        rt.alloc(),
+        args,
+        &mut input,
+        &mut out,
+        &mut err,
+        &mut outside,
+    ))
 }

@@ -1,7 +1,9 @@
 //! What no clause says: words as a user writes them, and that each call succeeds.
 
+mod sockets;
+
 use crate::run::run;
-use ot_io::{MemSink, MemSource, Status};
+use ot_io::{MemClock, MemOutside, MemSink, MemSource, Status};
 use std::test::Fail;
 
 /// A connect request, and its reply with a secret of zeros and with one of ones.
@@ -49,17 +51,33 @@ fn words_and_what_they_give(rt: HostRuntime) -> Result<(), Fail> {
             "opentracker: word 2 refused\n",
         ),
         (
-            "a server",
-            &["serve", ZEROS, "udp=127.0.0.1:6969"],
-            Status::Words { at: 0 },
+            "a server without a secret",
+            &["serve", "udp=127.0.0.1:6969"],
+            Status::Words { at: 2 },
             "",
-            "opentracker: word 0 refused\n",
+            "opentracker: word 2 refused\n",
+        ),
+        (
+            "a server that gets no wires",
+            &["serve", ZEROS, "udp=127.0.0.1:6969"],
+            Status::Device,
+            "",
+            "opentracker: device fault\n",
         ),
     ] {
         let mut input = MemSource::new(CONNECT.as_bytes(), &[], &[]);
         let mut output = MemSink::with_capacity(rt.alloc(), 100, 100, &[])?;
         let mut err = MemSink::with_capacity(rt.alloc(), 100, 100, &[])?;
-        let ended = run(&rt, rt.alloc(), words, &mut input, &mut output, &mut err);
+        let mut outside = MemOutside::new(rt.alloc(), MemClock::new(0, 0), Vec::new(rt.alloc()));
+        let ended = run(
+            &rt,
+            rt.alloc(),
+            words,
+            &mut input,
+            &mut output,
+            &mut err,
+            &mut outside,
+        );
         assert_eq!(&rt; ended, status, "{shows}");
         assert_eq!(&rt; output.written(), out.as_bytes(), "{shows}");
         assert_eq!(&rt; err.written(), told.as_bytes(), "{shows}");
@@ -85,7 +103,16 @@ fn a_load_is_run(rt: HostRuntime) -> Result<(), Fail> {
     let mut input = MemSource::new(&[], &[], &[]);
     let mut output = MemSink::with_capacity(rt.alloc(), 1_000, 100, &[])?;
     let mut err = MemSink::with_capacity(rt.alloc(), 100, 100, &[])?;
-    let ended = run(&rt, rt.alloc(), &words, &mut input, &mut output, &mut err);
+    let mut outside = MemOutside::new(rt.alloc(), MemClock::new(0, 0), Vec::new(rt.alloc()));
+    let ended = run(
+        &rt,
+        rt.alloc(),
+        &words,
+        &mut input,
+        &mut output,
+        &mut err,
+        &mut outside,
+    );
     assert_eq!(&rt; ended, Status::Done);
     assert_eq!(&rt; output.written(), NO_LOAD.as_bytes());
     assert_eq!(&rt; err.written(), "".as_bytes());
