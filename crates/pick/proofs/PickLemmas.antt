@@ -1,180 +1,162 @@
--- Which position has a rank among those that aren't picked.
-use Rattle.std.proofs.Common.{◌≡◌, ℕ, ◌+◌, ◌-◌, ◌%◌, ◌<◌, ◌≤◌, Bool, true, false, not, ◌||◌, cond, ltb, eqb, nat_eq, List, [], ◌∷◌, ◌++◌, refl, sym, ◌∙◌, ap, subst, zero, suc, inl, inr, length, take, drop, get_or, arith, add-one}
-use Rattle.std.specs.Cmp.{IsEquivalence}
-use Rattle.std.specs.List.{All, filter, list_any, range_with_len, sum_by, insert, IsDistinct, AllByRecursion}
-use Rattle.std.specs.List.Sorted.{IsPermutation}
-use Rattle.std.proofs.lemmas.Bool.{cases_lt, not_from_false}
+-- The later positions are picked among those that the first one leaves.
+use mir.Val.{bool_byte}
+use Rattle.std.proofs.Common.{◌≡◌, ℕ, ◌+◌, ◌-◌, ◌%◌, ◌<◌, ◌≤◌, Bool, true, false, not, ◌||◌, cond, if◌then◌else◌, eqb, nat_eq, List, [], ◌∷◌, ◌++◌, refl, sym, ◌∙◌, ap, subst, zero, suc, inl, inr, length, map, reverse, set, take, drop, get_or, arith, add-one}
+use Rattle.std.specs.List.{All, filter, refill, range_with_len, IsDistinct, AllByRecursion}
+use Rattle.std.proofs.lemmas.Bool.{cases_lt}
 use Rattle.std.proofs.lemmas.Bool.Decides.{nat_tests}
-use Rattle.std.proofs.lemmas.List.{map-id, take-append-drop, drop_more, get_or_at, length-append, get_or-take, get_or-drop, length-take-le, length-drop, length_push}
-use Rattle.std.proofs.lemmas.List.Edits.{length-insert, get_or-insert_below, get_or-insert_at, get_or-insert_above}
-use Rattle.std.proofs.lemmas.List.Elements.{filter-append, filter_passes, All-filter, All-from_get_or, All-get_or, All-cons, All-head, All-tail, All-push}
-use Rattle.std.proofs.lemmas.List.Folds.{list_any_none}
-use Rattle.std.proofs.lemmas.List.FromFn.{map-range_with_len_more, take-map-range_with_len, length-range_with_len, get_or-range_with_len}
-use Rattle.std.proofs.lemmas.List.Sorted.{All-permutation, IsPermutation-insert, IsPermutation-refl, IsPermutation-sym, IsPermutation-push_more, sum_by-IsPermutation}
-use Rattle.std.proofs.lemmas.List.Sums.{sum_by-cons, sum_by-take-drop, fold_more}
-use Rattle.std.proofs.lemmas.Map.Keys.{IsDistinct-head, IsDistinct-tail, IsDistinct-push}
+use Rattle.std.proofs.lemmas.List.{append-nil, append_assoc, map-append, map-id, map_push, map_more, drop_more, set_at, get_or_at, get_or-map, length-take-le, length-append, length-drop, length-map, length-reverse, nil_from_length, reverse-append, reverse-reverse, take_at}
+use Rattle.std.proofs.lemmas.List.Elements.{filter-append, recursion_from_All, All-cons, All-map}
+use Rattle.std.proofs.lemmas.List.FromFn.{map-range_with_len_more, length-range_with_len, get_or-range_with_len}
+use Rattle.std.proofs.lemmas.List.Sorted.{All-permutation, IsPermutation-reverse}
+use Rattle.std.proofs.lemmas.List.Sums.{fold_more}
+use Rattle.std.proofs.lemmas.Map.Keys.{IsDistinct-cons, IsDistinct-head, IsDistinct-tail}
 use Rattle.pick.specs.Picks.{is_picked, unpicked, with_pick, picks, AreApart}
-use Rattle.pick.specs.Cut.{Ascends, IsCut}
+use Rattle.pick.specs.Passing.{past}
 
 range_more : (n : ℕ) → range_with_len 0 (n + 1) ≡ range_with_len 0 n ++ n ∷ []
-range_more n = sym (map-id (range_with_len 0 (n + 1))) ∙ map-range_with_len_more (λ x. x) 0 n n (omega arith) ∙ ap (λ l. l ++ n ∷ []) (map-id (range_with_len 0 n))
-
-take_range : (n k : ℕ) → k ≤ n → take k (range_with_len 0 n) ≡ range_with_len 0 k
-take_range n k h = ap (λ l. take k l) (sym (map-id (range_with_len 0 n))) ∙ take-map-range_with_len (λ x. x) 0 n k h ∙ map-id (range_with_len 0 k)
-
--- 1 for a position below x
-abbrev pub below_of : ℕ → ℕ → ℕ
-below_of x q = cond (ltb q x) 1 0
-
-below_more : (x q : ℕ) → below_of (x + 1) q ≡ below_of x q + cond (eqb q x) 1 0
-below_more x q = grind (arith, nat_tests)
-
-cond_or : (b c : Bool) → (b ≡ true → c ≡ false) → cond (b || c) 1 0 ≡ cond b 1 0 + cond c 1 0
-cond_or true true h = absurd (let e : true ≡ false = h refl in cc)
-cond_or true false h = refl
-cond_or false c h = omega arith
-
-same_flip : (x y : ℕ) → eqb x y ≡ false → eqb y x ≡ false
-same_flip x y h = grind (arith, nat_tests)
-
-same_eq : (x y : ℕ) → eqb x y ≡ true → x ≡ y
-same_eq x y h = grind (arith, nat_tests)
-
--- a position that differs from each picked one isn't picked
-pub apart_from : (x : ℕ) (qs : List ℕ) → AllByRecursion (λ y. eqb x y ≡ false) qs → is_picked qs x ≡ false
-apart_from x [] all = refl
-apart_from x (y ∷ ys) all = ap (λ b. b || is_picked ys x) (same_flip x y all.0) ∙ apart_from x ys all.1
-
--- of different positions, one more is below x + 1 where x is among them
-sum_more : (x : ℕ) (picked : List ℕ) → IsDistinct nat_eq picked → sum_by (below_of (x + 1)) picked ≡ sum_by (below_of x) picked + cond (is_picked picked x) 1 0
-sum_more x [] distinct = refl
-sum_more x (q ∷ qs) distinct =
-    let rest = sum_more x qs (IsDistinct-tail nat_eq q qs distinct) in
-    let apart = IsDistinct-head nat_eq q qs distinct in
-    let here : cond (eqb q x || is_picked qs x) 1 0 ≡ cond (eqb q x) 1 0 + cond (is_picked qs x) 1 0 = cond_or (eqb q x) (is_picked qs x) (λ same. let P : ℕ → Type 0 = λ y. is_picked qs y ≡ false in subst P (same_eq q x same) (apart_from q qs apart)) in
-    omega (arith, sum_by-cons (below_of (x + 1)) q qs, sum_by-cons (below_of x) q qs, below_more x q, here, rest)
-
-none_below : (picked : List ℕ) → sum_by (below_of 0) picked ≡ 0
-none_below [] = refl
-none_below (q ∷ qs) =
-    let none : below_of 0 q ≡ 0 = grind (arith, nat_tests) in
-    omega (arith, sum_by-cons (below_of 0) q qs, none_below qs, none)
-
-length_if : (b : Bool) (x : ℕ) → length (cond (not b) (x ∷ []) []) + cond b 1 0 ≡ 1
-length_if true x = refl
-length_if false x = refl
+range_more n =
+    sym (map-id (range_with_len 0 (n + 1))) ∙ map-range_with_len_more (λ x. x) 0 n n (omega arith) ∙ ap (λ l. l ++ n ∷ []) (map-id (range_with_len 0 n))
 
 filter_more : (p : ℕ → Bool) (n : ℕ) → filter p (range_with_len 0 (n + 1)) ≡ filter p (range_with_len 0 n) ++ cond (p n) (n ∷ []) []
 filter_more p n = ap (λ l. filter p l) (range_more n) ∙ filter-append p (range_with_len 0 n) (n ∷ [])
 
-unpicked_more : (n : ℕ) (picked : List ℕ) → IsDistinct nat_eq picked → length (unpicked n picked) + sum_by (below_of n) picked ≡ n → length (unpicked (n + 1) picked) + sum_by (below_of (n + 1)) picked ≡ n + 1
-unpicked_more n picked distinct before =
-    let p = λ (x : ℕ). not (is_picked picked x) in
-    let more : length (unpicked (n + 1) picked) ≡ length (unpicked n picked) + length (cond (p n) (n ∷ []) []) = ap length (filter_more p n) ∙ length-append (unpicked n picked) (cond (p n) (n ∷ []) []) in
-    omega (arith, more, length_if (is_picked picked n) n, sum_more n picked distinct, before)
+-- a test that agrees with another at each position passed to keeps what that one keeps
+kept_more : (p q : ℕ → Bool) (f : ℕ → ℕ) (a m : ℕ) → f m ≡ a → p a ≡ q m → filter p (range_with_len 0 a) ≡ map f (filter q (range_with_len 0 m)) → filter p (range_with_len 0 (a + 1)) ≡ map f (filter q (range_with_len 0 (m + 1)))
+kept_more p q f a m at same before =
+    let one : (b : Bool) → cond b (f m ∷ []) [] ≡ map f (cond b (m ∷ []) []) = λ b. elim b as (λ b. cond b (f m ∷ []) [] ≡ map f (cond b (m ∷ []) [])) [ true ↦ refl | false ↦ refl ] in
+    filter_more p a
+    ∙ ap (λ l. l ++ cond (p a) (a ∷ []) []) before
+    ∙ ap (λ b. map f (filter q (range_with_len 0 m)) ++ cond b (a ∷ []) []) same
+    ∙ ap (λ x. map f (filter q (range_with_len 0 m)) ++ cond (q m) (x ∷ []) []) (sym at)
+    ∙ ap (λ l. map f (filter q (range_with_len 0 m)) ++ l) (one (q m))
+    ∙ sym (map-append f (filter q (range_with_len 0 m)) (cond (q m) (m ∷ []) []))
+    ∙ ap (map f) (sym (filter_more q m))
 
--- the positions below n are those that aren't picked and those that are
-pub unpicked_and_below : (n : ℕ) (picked : List ℕ) → IsDistinct nat_eq picked → length (unpicked n picked) + sum_by (below_of n) picked ≡ n
-unpicked_and_below zero picked distinct = omega (arith, none_below picked)
-unpicked_and_below (suc n) picked distinct =
-    let P : ℕ → Type 0 = λ m. length (unpicked m picked) + sum_by (below_of m) picked ≡ m in
-    subst P (add-one n) (unpicked_more n picked distinct (unpicked_and_below n picked distinct))
+past_below : (r x : ℕ) → x < r → past r x ≡ x
+past_below r x h = grind (arith, nat_tests)
 
--- a sum of ones, and of zeros
-sum_ones : (f : ℕ → ℕ) (xs : List ℕ) → All (λ x. f x ≡ 1) xs → sum_by f xs ≡ length xs
-sum_ones f [] all = refl
-sum_ones f (x ∷ xs) all =
-    omega (arith, sum_by-cons f x xs, All-head (λ y. f y ≡ 1) x xs all, sum_ones f xs (All-tail (λ y. f y ≡ 1) x xs all))
+past_from : (r x : ℕ) → r ≤ x → past r x ≡ x + 1
+past_from r x h = grind (arith, nat_tests)
 
-sum_zeros : (f : ℕ → ℕ) (xs : List ℕ) → All (λ x. f x ≡ 0) xs → sum_by f xs ≡ 0
-sum_zeros f [] all = refl
-sum_zeros f (x ∷ xs) all =
-    omega (arith, sum_by-cons f x xs, All-head (λ y. f y ≡ 0) x xs all, sum_zeros f xs (All-tail (λ y. f y ≡ 0) x xs all))
+never_gap : (r x : ℕ) → eqb r (past r x) ≡ false
+never_gap r x = grind (arith, nat_tests)
 
-below_yes : (x q : ℕ) → q < x → below_of x q ≡ 1
-below_yes x q h = grind (arith, nat_tests)
+past_apart : (r x y : ℕ) → eqb (past r y) (past r x) ≡ eqb y x
+past_apart r x y = grind (arith, nat_tests)
 
-below_no : (x q : ℕ) → x ≤ q → below_of x q ≡ 0
-below_no x q h = grind (arith, nat_tests)
+picked_past : (r x : ℕ) (ps : List ℕ) → is_picked (map (past r) ps) (past r x) ≡ is_picked ps x
+picked_past r x [] = refl
+picked_past r x (y ∷ ys) = ap (λ b. b || is_picked (map (past r) ys) (past r x)) (past_apart r x y) ∙ ap (λ b. eqb y x || b) (picked_past r x ys)
 
-differs : (x q : ℕ) → (q ≡ x → ⊥) → eqb q x ≡ false
-differs x q h = grind (arith, nat_tests)
+-- where the first pick was passed over, a position is picked if it was before
+same_past : (r x : ℕ) (ps : List ℕ) → not (is_picked (r ∷ map (past r) ps) (past r x)) ≡ not (is_picked ps x)
+same_past r x ps = ap (λ b. not (b || is_picked (map (past r) ps) (past r x))) (never_gap r x) ∙ ap not (picked_past r x ps)
 
--- as many picked positions as stand before the cut are below the position that is cut
-sum_cut : (a : List ℕ) (r c : ℕ) → IsCut a r c → sum_by (below_of (r + c)) a ≡ c
-sum_cut a r c cut =
-    let f = below_of (r + c) in
-    let front : sum_by f (take c a) ≡ c = sum_ones f (take c a) (All-from_get_or (λ x. f x ≡ 1) (take c a) 0 (λ i h.
-    let short : i < c = omega (arith, length-take-le c a cut.within) in
-    below_yes (r + c) (get_or (take c a) i 0) (omega (arith, get_or-take c a i 0 short, cut.lower i short)))) ∙ length-take-le c a cut.within in
-    let back : sum_by f (drop c a) ≡ 0 = sum_zeros f (drop c a) (All-from_get_or (λ x. f x ≡ 0) (drop c a) 0 (λ i h.
-    let within : c + i < length a = omega (arith, length-drop c a, cut.within) in
-    below_no (r + c) (get_or (drop c a) i 0) (omega (arith, get_or-drop c a i 0, cut.upper (c + i) (omega arith) within)))) in
-    omega (arith, sum_by-take-drop f a c, front, back)
+same_at : (r x a : ℕ) (ps : List ℕ) → past r x ≡ a → not (is_picked (r ∷ map (past r) ps) a) ≡ not (is_picked ps x)
+same_at r x a ps at =
+    let P : ℕ → Type 0 = λ m. not (is_picked (r ∷ map (past r) ps) m) ≡ not (is_picked ps x) in
+    subst P at (same_past r x ps)
 
--- and it is none of them
-none_at_cut : (a : List ℕ) (r c : ℕ) → IsCut a r c → All (λ q. eqb q (r + c) ≡ false) a
-none_at_cut a r c cut = All-from_get_or (λ q. eqb q (r + c) ≡ false) a 0 (λ i h. differs (r + c) (get_or a i 0) (λ same.
-    elim (cases_lt i c) [
-      | inl low ↦ omega (arith, cut.lower i low)
-      | inr high ↦ omega (arith, cut.upper i high h)
-    ]))
+left_before : (r m : ℕ) (ps : List ℕ) → m ≤ r → unpicked m (r ∷ map (past r) ps) ≡ map (past r) (unpicked m ps)
+left_before r zero ps within = refl
+left_before r (suc m) ps within =
+    let P : ℕ → Type 0 = λ x. unpicked x (r ∷ map (past r) ps) ≡ map (past r) (unpicked x ps) in
+    let at = past_below r m (omega arith) in
+    subst P (add-one m) (kept_more (λ (x : ℕ). not (is_picked (r ∷ map (past r) ps) x)) (λ (x : ℕ). not (is_picked ps x)) (past r) m m at (same_at r m m ps at) (left_before r m ps (omega arith)))
 
--- an unpicked position stands at the number of those before it
-pub unpicked_at : (p : ℕ → Bool) (n x : ℕ) → x < n → p x ≡ true → get_or (filter p (range_with_len 0 n)) (length (filter p (range_with_len 0 x))) 0 ≡ x
-unpicked_at p n x below passes =
-    let l = range_with_len 0 n in
-    let here : drop x l ≡ x ∷ drop (x + 1) l = drop_more l x 0 (omega (arith, length-range_with_len 0 n)) ∙ ap (λ y. y ∷ drop (x + 1) l) (get_or-range_with_len 0 n x 0 below ∙ omega arith) in
-    let split : l ≡ range_with_len 0 x ++ x ∷ drop (x + 1) l = sym (take-append-drop x l) ∙ ap (λ a. a ++ drop x l) (take_range n x (omega arith)) ∙ ap (λ b. range_with_len 0 x ++ b) here in
-    let parts : filter p l ≡ filter p (range_with_len 0 x) ++ x ∷ filter p (drop (x + 1) l) = ap (λ a. filter p a) split ∙ filter-append p (range_with_len 0 x) (x ∷ drop (x + 1) l) ∙ ap (λ b. filter p (range_with_len 0 x) ++ cond b (x ∷ filter p (drop (x + 1) l)) (filter p (drop (x + 1) l))) passes in
-    ap (λ a. get_or a (length (filter p (range_with_len 0 x))) 0) parts ∙ get_or_at (filter p (range_with_len 0 x)) x (filter p (drop (x + 1) l)) 0 (length (filter p (range_with_len 0 x))) refl
+gap_picked : (r : ℕ) (ps : List ℕ) → not (is_picked (r ∷ ps) r) ≡ false
+gap_picked r ps =
+    let same : eqb r r ≡ true = grind (arith, nat_tests) in
+    ap (λ b. not (b || is_picked ps r)) same
 
--- the number of positions that are left
-left_over : (n k : ℕ) (picked : List ℕ) → AreApart n k picked → length (unpicked n picked) + k ≡ n
-left_over n k picked apart =
-    let all : sum_by (below_of n) picked ≡ length picked = sum_ones (below_of n) picked (λ i d h. below_yes n (get_or picked i d) (apart.below i d h)) in
-    omega (arith, unpicked_and_below n picked apart.distinct, all, apart.count)
+left_after : (r d : ℕ) (ps : List ℕ) → unpicked (r + d + 1) (r ∷ map (past r) ps) ≡ map (past r) (unpicked (r + d) ps)
+left_after r zero ps =
+    let P : ℕ → Type 0 = λ x. unpicked (x + 1) (r ∷ map (past r) ps) ≡ map (past r) (unpicked x ps) in
+    let e : r ≡ r + 0 = omega arith in
+    let test = λ (x : ℕ). not (is_picked (r ∷ map (past r) ps) x) in
+    subst P e (filter_more test r ∙ ap (λ b. unpicked r (r ∷ map (past r) ps) ++ cond b (r ∷ []) []) (gap_picked r (map (past r) ps)) ∙ append-nil (unpicked r (r ∷ map (past r) ps)) ∙ left_before r r ps (omega arith))
+left_after r (suc d) ps =
+    let P : ℕ → Type 0 = λ x. unpicked (x + 1) (r ∷ map (past r) ps) ≡ map (past r) (unpicked x ps) in
+    let e : r + d + 1 ≡ r + suc d = omega arith in
+    let at = past_from r (r + d) (omega arith) in
+    subst P e (kept_more (λ (x : ℕ). not (is_picked (r ∷ map (past r) ps) x)) (λ (x : ℕ). not (is_picked ps x)) (past r) (r + d + 1) (r + d) at (same_at r (r + d) (r + d + 1) ps at) (left_after r d ps))
 
--- the position that a word picks
-abbrev pub picked_by : ℕ → List ℕ → ℕ → ℕ
-picked_by n picked word = get_or (unpicked n picked) (word % (n - length picked)) 0
+-- what is left with a first pick, and others past it, is what the others leave, past the first
+pub left_past : (r n : ℕ) (ps : List ℕ) → r ≤ n → unpicked (n + 1) (r ∷ map (past r) ps) ≡ map (past r) (unpicked n ps)
+left_past r n ps within =
+    let P : ℕ → Type 0 = λ x. unpicked (x + 1) (r ∷ map (past r) ps) ≡ map (past r) (unpicked x ps) in
+    let e : r + (n - r) ≡ n = omega arith in
+    subst P e (left_after r (n - r) ps)
 
-rank_within : (n k word : ℕ) (picked : List ℕ) → AreApart n k picked → k < n → word % (n - length picked) < length (unpicked n picked)
-rank_within n k word picked apart few =
-    let e : n - length picked ≡ length (unpicked n picked) = omega (arith, left_over n k picked apart, apart.count) in
-    let P : ℕ → Type 0 = λ m. word % m < length (unpicked n picked) in
-    let some : 0 < length (unpicked n picked) = omega (arith, left_over n k picked apart) in
-    subst P (sym e) (omega arith)
+-- with nothing picked, all are left
+all_left : (xs : List ℕ) → filter (λ x. not (is_picked [] x)) xs ≡ xs
+all_left [] = refl
+all_left (x ∷ xs) = ap (λ l. x ∷ l) (all_left xs)
 
-not_true : (b : Bool) → not b ≡ true → b ≡ false
-not_true true h = absurd (cc)
-not_true false h = refl
+-- Positions that are picked: beside what tells them apart, the number of those that they leave.
+record ArePicked (n k : ℕ) (picked : List ℕ) : Type 0 where
+  pub apart : AreApart n k picked
+  pub left : length (unpicked n picked) + k ≡ n
 
-range_below : (n : ℕ) → All (λ x. x < n) (range_with_len 0 n)
-range_below n = All-from_get_or (λ x. x < n) (range_with_len 0 n) 0 (λ i h. omega (arith, length-range_with_len 0 n, get_or-range_with_len 0 n i 0 (omega (arith, length-range_with_len 0 n))))
-
-is_picked_flip : (x : ℕ) (qs : List ℕ) → is_picked qs x ≡ false → list_any (nat_eq x) qs ≡ false
-is_picked_flip x [] none = refl
-is_picked_flip x (q ∷ qs) none = grind (arith, nat_tests, is_picked_flip x qs, same_flip q x)
-
-nat_equal : IsEquivalence nat_eq
-nat_equal = record {
-  refl = λ x. grind (arith, nat_tests);
-  symm = λ x y. grind (arith, nat_tests);
-  congr = λ x y z h. grind (arith, nat_tests);
+none_picked : (n : ℕ) → ArePicked n 0 []
+unfolding IsDistinct
+none_picked n = record {
+  apart = record { count = refl; below = λ i d h. absurd (omega arith); distinct = tt };
+  left = omega (arith, ap length (all_left (range_with_len 0 n)), length-range_with_len 0 n);
 }
 
--- positions with one more that a word picks
-pub apart_more : (n k word : ℕ) (picked : List ℕ) → AreApart n k picked → k < n → AreApart n (k + 1) (with_pick n picked word)
-apart_more n k word picked apart few =
-    let p = λ (x : ℕ). not (is_picked picked x) in
-    let within = rank_within n k word picked apart few in
-    let free : is_picked picked (picked_by n picked word) ≡ false = not_true (is_picked picked (picked_by n picked word)) (All-get_or (λ x. p x ≡ true) (unpicked n picked) (word % (n - length picked)) 0 within (filter_passes p (range_with_len 0 n))) in
+passes_little : (r x : ℕ) → past r x ≤ x + 1
+passes_little r x = grind (arith, nat_tests)
+
+differs_past : (r y : ℕ) (ps : List ℕ) → AllByRecursion (λ x. eqb y x ≡ false) ps → AllByRecursion (λ x. eqb (past r y) x ≡ false) (map (past r) ps)
+differs_past r y [] all = tt
+differs_past r y (x ∷ xs) all = (past_apart r x y ∙ all.0, differs_past r y xs all.1)
+
+distinct_past : (r : ℕ) (ps : List ℕ) → IsDistinct nat_eq ps → IsDistinct nat_eq (map (past r) ps)
+distinct_past r [] distinct = distinct
+distinct_past r (y ∷ ys) distinct =
+    IsDistinct-cons nat_eq (past r y) (map (past r) ys) (differs_past r y ys (IsDistinct-head nat_eq y ys distinct)) (distinct_past r ys (IsDistinct-tail nat_eq y ys distinct))
+
+-- a first pick, and others past it
+picked_past_first : (r n k : ℕ) (ps : List ℕ) → r ≤ n → ArePicked n k ps → ArePicked (n + 1) (k + 1) (r ∷ map (past r) ps)
+picked_past_first r n k ps within picked =
+    let below = picked.apart.below in
     record {
-      count = omega (arith, length_push picked (picked_by n picked word), apart.count);
-      below = All-push (λ x. x < n) picked (picked_by n picked word) apart.below (All-get_or (λ x. x < n) (unpicked n picked) (word % (n - length picked)) 0 within (All-filter p (λ x. x < n) (range_with_len 0 n) (range_below n)));
-      distinct = IsDistinct-push nat_equal picked (picked_by n picked word) apart.distinct (is_picked_flip (picked_by n picked word) picked free);
+      apart = record {
+        count = omega (arith, length-map ps (past r), picked.apart.count);
+        below = All-cons (λ x. x < n + 1) r (map (past r) ps) (omega arith) (All-map (λ x. x < n + 1) (past r) ps (λ i d h. omega (arith, passes_little r (get_or ps i d), below i d h)));
+        distinct = IsDistinct-cons nat_eq r (map (past r) ps) (recursion_from_All (λ x. eqb r x ≡ false) (map (past r) ps) (All-map (λ x. eqb r x ≡ false) (past r) ps (λ i d h. never_gap r (get_or ps i d)))) (distinct_past r ps picked.apart.distinct);
+      };
+      left = omega (arith, ap length (left_past r n ps within), length-map (unpicked n ps) (past r), picked.left);
     }
+
+-- the position that a word picks
+abbrev picked_by : ℕ → List ℕ → ℕ → ℕ
+picked_by n picked word = get_or (unpicked n picked) (word % (n - length picked)) 0
+
+rank_within : (n k word : ℕ) (picked : List ℕ) → ArePicked n k picked → k < n → word % (n - length picked) < length (unpicked n picked)
+rank_within n k word picked are few =
+    let e : length (unpicked n picked) ≡ n - length picked = omega (arith, are.left, are.apart.count) in
+    let P : ℕ → Type 0 = λ m. word % (n - length picked) < m in
+    subst P (sym e) (omega (arith, are.apart.count))
+
+-- a pick with a first one before it
+pick_past : (r n k word : ℕ) (ps : List ℕ) → r ≤ n → ArePicked n k ps → k < n → with_pick (n + 1) (r ∷ map (past r) ps) word ≡ r ∷ map (past r) (with_pick n ps word)
+pick_past r n k word ps within are few =
+    let i = word % (n - length ps) in
+    let count : n + 1 - length (r ∷ map (past r) ps) ≡ n - length ps = omega (arith, length-map ps (past r)) in
+    let found : picked_by (n + 1) (r ∷ map (past r) ps) word ≡ past r (picked_by n ps word) =
+    ap (λ m. get_or (unpicked (n + 1) (r ∷ map (past r) ps)) (word % m) 0) count
+    ∙ ap (λ l. get_or l i 0) (left_past r n ps within)
+    ∙ get_or-map (past r) (unpicked n ps) i 0 0 (rank_within n k word ps are few) in
+    ap (λ x. r ∷ map (past r) ps ++ x ∷ []) found ∙ ap (λ l. r ∷ l) (sym (map_push (past r) ps (picked_by n ps word)))
+
+first_pick : (word n : ℕ) → with_pick (n + 1) [] word ≡ word % (n + 1) ∷ []
+first_pick word n =
+    let small : word % (n + 1) < n + 1 = omega arith in
+    let all : n + 1 - 0 ≡ n + 1 = omega arith in
+    let found : picked_by (n + 1) [] word ≡ word % (n + 1) = ap (λ m. get_or (unpicked (n + 1) []) (word % m) 0) all ∙ ap (λ l. get_or l (word % (n + 1)) 0) (all_left (range_with_len 0 (n + 1))) ∙ get_or-range_with_len 0 (n + 1) (word % (n + 1)) 0 small ∙ omega arith in
+    ap (λ x. x ∷ []) found
 
 picks_more : (words : List ℕ) (n k : ℕ) → k < length words → picks words n (k + 1) ≡ with_pick n (picks words n k) (get_or words k 0)
 unfolding picks
@@ -184,148 +166,158 @@ picks_none : (words : List ℕ) (n : ℕ) → picks words n 0 ≡ []
 unfolding picks
 picks_none words n = refl
 
+-- k words pick so many positions
+abbrev PickApart : ℕ → Type 0
+PickApart k = (words : List ℕ) (n : ℕ) → k ≤ n → k ≤ length words → ArePicked n k (picks words n k)
+
+-- before k words, one more picks a position, and they pick among those that it leaves
+abbrev PickPast : ℕ → Type 0
+PickPast k = (word : ℕ) (words : List ℕ) (n : ℕ) → k ≤ n → k ≤ length words → picks (word ∷ words) (n + 1) (k + 1) ≡ word % (n + 1) ∷ map (past (word % (n + 1))) (picks words n k)
+
+apart_none : PickApart 0
+apart_none words n few within =
+    let P : List ℕ → Type 0 = λ l. ArePicked n 0 l in
+    subst P (sym (picks_none words n)) (none_picked n)
+
+apart_more : (k : ℕ) → PickApart k → PickPast k → PickApart (k + 1)
+apart_more k apart law [] n few within = absurd (omega arith)
+apart_more k apart law (word ∷ words) n few within =
+    let m = n - 1 in
+    let P : ℕ → Type 0 = λ m. ArePicked m (k + 1) (picks (word ∷ words) m (k + 1)) in
+    let Q : List ℕ → Type 0 = λ l. ArePicked (m + 1) (k + 1) l in
+    let all : m + 1 ≡ n = omega arith in
+    let r = word % (m + 1) in
+    subst P all (subst Q (sym (law word words m (omega arith) (omega arith))) (picked_past_first r m k (picks words m k) (omega arith) (apart words m (omega arith) (omega arith))))
+
+past_none : PickPast 0
+past_none word words n few within =
+    picks_more (word ∷ words) (n + 1) 0 (omega arith)
+    ∙ ap (λ l. with_pick (n + 1) l word) (picks_none (word ∷ words) (n + 1))
+    ∙ first_pick word n
+    ∙ ap (λ l. word % (n + 1) ∷ map (past (word % (n + 1))) l) (sym (picks_none words n))
+
+past_more : (k : ℕ) → PickApart k → PickPast k → PickPast (k + 1)
+past_more k apart law word words n few within =
+    let r = word % (n + 1) in
+    let next = get_or words k 0 in
+    let same : get_or (word ∷ words) (k + 1) 0 ≡ next = rw add-one in
+    picks_more (word ∷ words) (n + 1) (k + 1) (omega arith)
+    ∙ ap (λ w. with_pick (n + 1) (picks (word ∷ words) (n + 1) (k + 1)) w) same
+    ∙ ap (λ l. with_pick (n + 1) l next) (law word words n (omega arith) (omega arith))
+    ∙ pick_past r n k next (picks words n k) (omega arith) (apart words n (omega arith) (omega arith)) (omega arith)
+    ∙ ap (λ l. r ∷ map (past r) l) (sym (picks_more words n k (omega arith)))
+
+both : (k : ℕ) → PickApart k × PickPast k
+both zero = (apart_none, past_none)
+both (suc k) =
+    let P : ℕ → Type 0 = λ m. PickApart m × PickPast m in
+    let before = both k in
+    subst P (add-one k) (apart_more k before.0 before.1, past_more k before.0 before.1)
+
 pub picks_apart : (words : List ℕ) (n k : ℕ) → k ≤ n → k ≤ length words → AreApart n k (picks words n k)
-unfolding IsDistinct
-picks_apart words n zero few within =
-    let P : List ℕ → Type 0 = λ l. AreApart n 0 l in
-    subst P (sym (picks_none words n)) (record { count = refl; below = λ i d h. absurd (omega arith); distinct = tt })
-picks_apart words n (suc k) few within =
-    let P : List ℕ → Type 0 = λ l. AreApart n (k + 1) l in
-    let Q : ℕ → Type 0 = λ m. AreApart n m (picks words n m) in
-    subst Q (add-one k) (subst P (sym (picks_more words n k (omega arith))) (apart_more n k (get_or words k 0) (picks words n k) (picks_apart words n k (omega arith) (omega arith)) (omega arith)))
+picks_apart words n k few within = ((both k).0 words n few within).apart
 
--- what the loop keeps
-pub record IsPicking (words : List ℕ) (n j : ℕ) (ascending picked : List ℕ) : Type 0 where
-  pub picks : picked ≡ picks words n j
-  pub count : length ascending ≡ j
-  pub below : All (λ x. x < n) ascending
-  pub ascends : Ascends ascending
-  pub same : IsPermutation ascending picked
+picks_past : (word : ℕ) (words : List ℕ) (n k : ℕ) → k ≤ n → k ≤ length words → picks (word ∷ words) (n + 1) (k + 1) ≡ word % (n + 1) ∷ map (past (word % (n + 1))) (picks words n k)
+picks_past word words n k = (both k).1 word words n
 
-pub picked_apart : (words : List ℕ) (n j : ℕ) (ascending picked : List ℕ) → IsPicking words n j ascending picked → j ≤ n → j ≤ length words → AreApart n j picked
-picked_apart words n j ascending picked picking few within =
-    let P : List ℕ → Type 0 = λ l. AreApart n j l in
-    subst P (sym picking.picks) (picks_apart words n j few within)
+-- the picks of the words from j on
+abbrev pub picks_from : List ℕ → ℕ → ℕ → ℕ → List ℕ
+picks_from words n j k = picks (drop j words) (n - j) k
 
--- the position that is cut is below n
-pub cut_below : (n j word length : ℕ) (c : ℕ) → j < n → c ≤ length → length ≡ j → word % (n - j) + c < n
-cut_below n j word length c few within count =
-    let rank : word % (n - j) < n - j = omega arith in
-    omega arith
+-- the same with one word more before them
+pub picks_before : (words : List ℕ) (n j k : ℕ) → j + k < n → j + k < length words → picks_from words n j (k + 1) ≡ get_or words j 0 % (n - j) ∷ map (past (get_or words j 0 % (n - j))) (picks_from words n (j + 1) k)
+picks_before words n j k few within =
+    let word = get_or words j 0 in
+    let rest = drop (j + 1) words in
+    let left : n - (j + 1) + 1 ≡ n - j = omega arith in
+    let P : ℕ → Type 0 = λ m. picks (word ∷ rest) m (k + 1) ≡ word % m ∷ map (past (word % m)) (picks rest (n - (j + 1)) k) in
+    ap (λ l. picks l (n - j) (k + 1)) (drop_more words j 0 (omega arith))
+    ∙ subst P left (picks_past word rest (n - (j + 1)) k (omega arith) (omega (arith, length-drop (j + 1) words)))
 
--- the position that is cut is the one that the word picks
-pub cut_picked : (words : List ℕ) (n j : ℕ) (ascending picked : List ℕ) (c : ℕ) → IsPicking words n j ascending picked → j < n → j ≤ length words → IsCut ascending (get_or words j 0 % (n - j)) c → picked_by n picked (get_or words j 0) ≡ get_or words j 0 % (n - j) + c
-cut_picked words n j ascending picked c picking few within cut =
-    let apart = picked_apart words n j ascending picked picking (omega arith) within in
+reverse_cons : (x : ℕ) (xs : List ℕ) → reverse (x ∷ xs) ≡ reverse xs ++ x ∷ []
+reverse_cons x xs = reverse-append (x ∷ []) xs
+
+map_reverse : (f : ℕ → ℕ) (xs : List ℕ) → map f (reverse xs) ≡ reverse (map f xs)
+map_reverse f [] = refl
+map_reverse f (x ∷ xs) =
+    ap (map f) (reverse_cons x xs) ∙ map-append f (reverse xs) (x ∷ []) ∙ ap (λ l. l ++ f x ∷ []) (map_reverse f xs) ∙ sym (reverse_cons (f x) (map f xs))
+
+-- the last picks, the last one first
+abbrev pub IsLate : List ℕ → ℕ → ℕ → ℕ → List ℕ → Type 0
+IsLate words n k done later = later ≡ reverse (picks_from words n (k - done) done)
+
+pub late_none : (words : List ℕ) (n k : ℕ) → IsLate words n k 0 []
+late_none words n k = ap reverse (sym (picks_none (drop (k - 0) words) (n - (k - 0))))
+
+late_apart : (words : List ℕ) (n k done : ℕ) → done ≤ k → k ≤ n → k ≤ length words → AreApart (n - (k - done)) done (picks_from words n (k - done) done)
+late_apart words n k done late few within =
+    picks_apart (drop (k - done) words) (n - (k - done)) done (omega arith) (omega (arith, length-drop (k - done) words))
+
+pub late_count : (words : List ℕ) (n k done : ℕ) (later : List ℕ) → IsLate words n k done later → done ≤ k → k ≤ n → k ≤ length words → length later ≡ done
+late_count words n k done later is late few within =
+    ap length is ∙ length-reverse (picks_from words n (k - done) done) ∙ (late_apart words n k done late few within).count
+
+-- late picks are below n by as many as there are words before theirs
+pub late_below : (words : List ℕ) (n k done most : ℕ) (later : List ℕ) → IsLate words n k done later → done < k → k ≤ n → k ≤ length words → n < most → All (λ position. position + 1 < most) later
+late_below words n k done most later is late few within small =
+    let picked = picks_from words n (k - done) done in
+    let below = (late_apart words n k done (omega arith) few within).below in
+    let P : List ℕ → Type 0 = λ l. All (λ position. position + 1 < most) l in
+    subst P (sym is) (All-permutation (λ position. position + 1 < most) picked (reverse picked) (IsPermutation-reverse picked) (λ i d h. omega (arith, below i d h)))
+
+-- one pick more before the late ones, which pass over it
+pub late_more : (words : List ℕ) (n k done : ℕ) (later lent passed : List ℕ) → IsLate words n k done later → done < k → k ≤ n → k ≤ length words → lent ≡ later → passed ≡ map (past (get_or words (k - 1 - done) 0 % (n - (k - 1 - done)))) lent
+    → IsLate words n k (done + 1) (refill (length later) later passed ++ (get_or words (k - 1 - done) 0 % (n - (k - 1 - done))) ∷ [])
+late_more words n k done later lent passed is late few within same over =
+    let j = k - 1 - done in
     let r = get_or words j 0 % (n - j) in
-    let x = r + c in
-    let small : x < n = cut_below n j (get_or words j 0) (length ascending) c few cut.within picking.count in
-    let free : is_picked picked x ≡ false = list_any_none (λ p. eqb p x) picked (All-permutation (λ q. eqb q x ≡ false) ascending picked picking.same (none_at_cut ascending r c cut)) in
-    let passes : not (is_picked picked x) ≡ true = not_from_false (is_picked picked x) free in
-    let sum : sum_by (below_of x) picked ≡ c = sum_by-IsPermutation (below_of x) ascending picked picking.same ∙ sum_cut ascending r c cut in
-    let rank : length (unpicked x picked) ≡ r = omega (arith, unpicked_and_below x picked apart.distinct, sum) in
-    let at_it = unpicked_at (λ (y : ℕ). not (is_picked picked y)) n x small passes in
-    ap (λ m. get_or (unpicked n picked) (get_or words j 0 % (n - m)) 0) apart.count
-    ∙ ap (λ m. get_or (unpicked n picked) m 0) (sym rank) ∙ at_it
+    let f = past r in
+    let picked = picks_from words n (j + 1) done in
+    let here : k - (done + 1) ≡ j = omega arith in
+    let next : j + 1 ≡ k - done = omega arith in
+    let count : length passed ≡ length later = ap length over ∙ length-map lent f ∙ ap length same in
+    let whole : refill (length later) later passed ≡ passed = take_at passed (drop (length passed) later) (length later) count in
+    let turned : passed ≡ reverse (map f picked) = over ∙ ap (map f) (same ∙ is ∙ ap (λ i. reverse (picks_from words n i done)) (sym next)) ∙ map_reverse f picked in
+    ap (λ l. l ++ r ∷ []) (whole ∙ turned)
+    ∙ sym (reverse_cons r (map f picked))
+    ∙ ap reverse (sym (picks_before words n j done (omega arith) (omega arith)))
+    ∙ ap (λ i. reverse (picks_from words n i (done + 1))) (sym here)
 
-at_above : (a : List ℕ) (c x k : ℕ) → c < k → c ≤ length a → get_or (insert a c x) k 0 ≡ get_or a (k - 1) 0
-at_above a c x k above within =
-    let P : ℕ → Type 0 = λ m. get_or (insert a c x) m 0 ≡ get_or a (k - 1) 0 in
-    let e : k - 1 + 1 ≡ k = omega arith in
-    subst P e (get_or-insert_above a c x 0 (k - 1) (omega arith) within)
+-- all are late in the end
+pub late_all : (words : List ℕ) (n k : ℕ) (later : List ℕ) → IsLate words n k k later → reverse later ≡ picks words n k
+late_all words n k later is =
+    let none : k - k ≡ 0 = omega arith in
+    ap reverse is ∙ reverse-reverse (picks_from words n (k - k) k) ∙ ap (λ i. picks_from words n i k) none ∙ ap (λ m. picks words m k) (omega arith)
 
--- what is cut goes in so that the list still ascends
-ascends_insert : (a : List ℕ) (r c : ℕ) → Ascends a → IsCut a r c → Ascends (insert a c (r + c))
-ascends_insert a r c up cut i k before within =
-    let x = r + c in
-    let short : k < length a + 1 = omega (arith, length-insert a c x cut.within) in
-    elim (cases_lt k c) [
-      | inl low ↦ omega (arith, get_or-insert_below a c x 0 i (omega arith) cut.within, get_or-insert_below a c x 0 k low cut.within, up i k before (omega (arith, cut.within)))
-      | inr high ↦ elim (cases_lt c k) [
-        | inr same ↦
-            let e : k ≡ c = omega arith in
-            let P : ℕ → Type 0 = λ m. get_or (insert a c x) i 0 < get_or (insert a c x) m 0 in
-            subst P (sym e) (omega (arith, get_or-insert_below a c x 0 i (omega arith) cut.within, get_or-insert_at a c x 0 cut.within, cut.lower i (omega arith)))
-        | inl above ↦
-            let there = at_above a c x k above cut.within in
-            let great = cut.upper (k - 1) (omega arith) (omega arith) in
-            elim (cases_lt i c) [
-              | inl left ↦ omega (arith, there, get_or-insert_below a c x 0 i left cut.within, up i (k - 1) (omega arith) (omega arith))
-              | inr right ↦ elim (cases_lt c i) [
-                | inl past ↦ omega (arith, there, at_above a c x i past cut.within, up (i - 1) (k - 1) (omega arith) (omega arith))
-                | inr same ↦
-                    let e : i ≡ c = omega arith in
-                    let P : ℕ → Type 0 = λ m. get_or (insert a c x) m 0 < get_or (insert a c x) k 0 in
-                    subst P (sym e) (omega (arith, there, get_or-insert_at a c x 0 cut.within, great))
-              ]
-            ]
-      ]
-    ]
+-- as many have been turned round as are picked without those that are left
+pub turned_count : (words : List ℕ) (n k : ℕ) (picked later : List ℕ) → picked ++ reverse later ≡ picks words n k → k ≤ n → k ≤ length words → length picked + length later ≡ k
+turned_count words n k picked later turned few within =
+    omega (arith, length-append picked (reverse later), length-reverse later, ap length turned, (picks_apart words n k few within).count)
 
--- the loop's step
-pub picking_more : (words : List ℕ) (n j word : ℕ) (ascending picked : List ℕ) (c : ℕ) → IsPicking words n j ascending picked → j < n → j < length words → word ≡ get_or words j 0 → IsCut ascending (word % (n - j)) c
-    → IsPicking words n (j + 1) (insert ascending c (word % (n - j) + c)) (picked ++ (word % (n - j) + c) ∷ [])
-picking_more words n j word ascending picked c picking few within is cut =
-    let x = word % (n - j) + c in
-    let it : picked_by n picked word ≡ x =
-    let P : ℕ → Type 0 = λ w. IsCut ascending (w % (n - j)) c in
-    ap (λ w. picked_by n picked w) is ∙ cut_picked words n j ascending picked c picking few (omega arith) (subst P is cut) ∙ ap (λ w. w % (n - j) + c) (sym is) in
-    let moved = IsPermutation-insert ascending c x in
-    record {
-      picks = ap (λ y. picked ++ y ∷ []) (sym it) ∙ ap (λ w. with_pick n picked w) is ∙ ap (λ l. with_pick n l (get_or words j 0)) picking.picks ∙ sym (picks_more words n j within);
-      count = omega (arith, length-insert ascending c x cut.within, picking.count);
-      below = All-permutation (λ y. y < n) (x ∷ ascending) (insert ascending c x) moved (All-cons (λ y. y < n) x ascending (cut_below n j word (length ascending) c few cut.within picking.count) picking.below);
-      ascends = ascends_insert ascending (word % (n - j)) c picking.ascends cut;
-      same = IsPermutation-sym (picked ++ x ∷ []) (insert ascending c x) (IsPermutation-push_more picked ascending (insert ascending c x) x (IsPermutation-sym ascending picked picking.same) moved);
-    }
+pub turned_apart : (words : List ℕ) (n k : ℕ) (picked later : List ℕ) → picked ++ reverse later ≡ picks words n k → (0 < length later → ⊥) → k ≤ n → k ≤ length words → AreApart n k picked
+turned_apart words n k picked later turned empty few within =
+    let P : List ℕ → Type 0 = λ l. AreApart n k l in
+    let none : later ≡ [] = nil_from_length later (elim (cases_lt 0 (length later)) [ inl some ↦ absurd (empty some) | inr none ↦ omega arith ]) in
+    let all : picked ≡ picks words n k = sym (append-nil picked) ∙ ap (λ l. picked ++ reverse l) (sym none) ∙ turned in
+    subst P (sym all) (picks_apart words n k few within)
 
-pub picking_none : (words : List ℕ) (n : ℕ) → IsPicking words n 0 [] []
-picking_none words n = record {
-  picks = sym (picks_none words n);
-  count = refl;
-  below = λ i d h. absurd (omega arith);
-  ascends = λ i j h k. absurd (omega arith);
-  same = IsPermutation-refl [];
-}
+-- a test as a number, added
+pub add_test : (b : Bool) (x : ℕ) → x + bool_byte b ≡ (if b then x + 1 else x)
+add_test true x = refl
+add_test false x = omega arith
 
--- the place that is sought is from low to high
-pub record IsNarrowed (ascending : List ℕ) (rank low high : ℕ) : Type 0 where
-  pub order : low ≤ high
-  pub within : high ≤ length ascending
-  pub lower : (i : ℕ) → i < low → get_or ascending i 0 ≤ rank + i
-  pub upper : (i : ℕ) → high ≤ i → i < length ascending → rank + i < get_or ascending i 0
-
--- a greater place gains no less
-gains : (a : List ℕ) → Ascends a → (i k : ℕ) → i + k < length a → get_or a i 0 + k ≤ get_or a (i + k) 0
-gains a up i zero within =
-    let P : ℕ → Type 0 = λ m. get_or a i 0 + 0 ≤ get_or a m 0 in
-    let e : i ≡ i + 0 = omega arith in
-    subst P e (omega arith)
-gains a up i (suc k) within =
-    let P : ℕ → Type 0 = λ m. get_or a i 0 + suc k ≤ get_or a m 0 in
-    let e : i + k + 1 ≡ i + suc k = omega arith in
-    let here : i + k + 1 < length a = omega arith in
-    subst P e (omega (arith, gains a up i k (omega arith), up (i + k) (i + k + 1) (omega arith) here))
-
--- the same between two places
-gains_between : (a : List ℕ) → Ascends a → (i m : ℕ) → i ≤ m → m < length a → get_or a i 0 + m ≤ get_or a m 0 + i
-gains_between a up i m before within =
-    let e : i + (m - i) ≡ m = omega arith in
-    let P : ℕ → Type 0 = λ j. get_or a i 0 + (m - i) ≤ get_or a j 0 in
-    omega (arith, subst P e (gains a up i (m - i) (omega arith)))
-
-pub narrowed_above : (a : List ℕ) (r low high m : ℕ) → Ascends a → IsNarrowed a r low high → low ≤ m → m < high → get_or a m 0 ≤ r + m → IsNarrowed a r (m + 1) high
-narrowed_above a r low high m up it after before small = record {
-  order = omega arith;
-  within = it.within;
-  lower = λ i h. omega (arith, gains_between a up i m (omega arith) (omega (arith, it.within)));
-  upper = it.upper;
-}
-
-pub narrowed_below : (a : List ℕ) (r low high m : ℕ) → Ascends a → IsNarrowed a r low high → low ≤ m → m < high → r + m < get_or a m 0 → IsNarrowed a r low m
-narrowed_below a r low high m up it after before great = record {
-  order = after;
-  within = omega (arith, it.within);
-  lower = it.lower;
-  upper = λ i h within. omega (arith, gains_between a up m i h within);
-}
+-- one position more is passed over, where it stands
+pub passed_more : (gap : ℕ) (old now : List ℕ) (i passed : ℕ) → i < length old → now ≡ map (past gap) (take i old) ++ drop i old → passed ≡ past gap (get_or now i 0) → set now i passed ≡ map (past gap) (take (i + 1) old) ++ drop (i + 1) old
+passed_more gap old now i passed within so_far is =
+    let f = past gap in
+    let front = map f (take i old) in
+    let x = get_or old i 0 in
+    let rest = drop (i + 1) old in
+    let count : length front ≡ i = length-map (take i old) f ∙ length-take-le i old (omega arith) in
+    let split : now ≡ front ++ x ∷ rest = so_far ∙ ap (λ l. front ++ l) (drop_more old i 0 within) in
+    let here : passed ≡ f x = is ∙ ap (λ l. f (get_or l i 0)) split ∙ ap f (get_or_at front x rest 0 i count) in
+    ap (λ l. set l i passed) split
+    ∙ set_at front x rest passed i count
+    ∙ ap (λ y. front ++ y ∷ rest) here
+    ∙ sym (append_assoc front (f x ∷ []) rest)
+    ∙ ap (λ l. l ++ rest) (sym (map_more f old i 0 within))

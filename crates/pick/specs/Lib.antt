@@ -1,2 +1,2 @@
-pub mod Cut
+pub mod Passing
 pub mod Picks

@@ -1,8 +1,8 @@
 //! Picks without repetition.
 
-ghost use Rattle.std.specs.Prelude.{◌≡◌, ◌<◌, ◌≤◌, All, length, nat_eq};
+ghost use Rattle.std.specs.Prelude.{◌≡◌, ◌+◌, ◌^◌, ◌<◌, ◌≤◌, All, length, map, nat_eq};
 ghost use Rattle.std.specs.List.{IsDistinct};
-ghost use Rattle.pick.specs.Cut.{Ascends, IsCut};
+ghost use Rattle.pick.specs.Passing.{past};
 ghost use Rattle.pick.specs.Picks.{picks};
 
 use arrayvec::ArrayVec;
@@ -16,7 +16,8 @@ pub type Picks = InPlace<u32, PICKS>;
 
 /// Picks `k` different positions below `n`, one for each of the first `k` words: the word's
 /// remainder by the number of positions that are left is the place, from 0, among those left in
-/// ascending order. It takes no memory, and k log k comparisons however great `n` is.
+/// ascending order. It takes no memory, and k² / 2 comparisons however great `n` is, several at
+/// once where the processor can.
 pub fn pick(words: &[u32; 200], n: u32, k: u32) -> Picks
     requires within { k ≤ n }
     requires few { k ≤ 200 }
@@ -25,34 +26,29 @@ pub fn pick(words: &[u32; 200], n: u32, k: u32) -> Picks
     ensures below { All (λ position. position < n) result }
     ensures distinct { IsDistinct nat_eq result }
 {
+    // The later picks, the last one first: so each pass over them begins at the same address, and
+    // reads what the one before wrote in the same steps.
+    let mut later: ArrayVec<u32, PICKS> = ArrayVec::new();
+    for done in 0..k {
+        let j = k - 1 - done;
+        let position = words[j as usize] % (n - j);
+        pass_over(later.as_mut_slice(), position);
+        later.push(position);
+    }
     let mut picked = Picks::new();
-    let mut ascending: ArrayVec<u32, PICKS> = ArrayVec::new();
-    for j in 0..k {
-        let rank = words[j as usize] % (n - j);
-        let before = picked_before(ascending.as_slice(), rank);
-        let position = rank + before as u32;
-        ascending.insert(before, position);
+    while let Some(position) = later.pop() {
         picked.push(position);
     }
     picked
 }
 
-/// How many picked positions stand before the position that has a rank, from 0, among those that
-/// aren't picked. Before the picked position at a place there are as many others as it is greater
-/// than its place, so the place is found by bisection.
-fn picked_before(ascending: &[u32], rank: u32) -> usize
-    requires { Ascends ascending.now }
-    ensures { IsCut ascending.now rank result }
+/// Tells positions among all, where they were among all but one. There are no branches, so that
+/// the compiler takes several positions at once.
+fn pass_over(positions: &mut [u32], gap: u32)
+    requires { All (λ position. position + 1 < 2 ^ 32) positions.old }
+    ensures { positions.new ≡ map (past gap) positions.old }
 {
-    let mut low = 0;
-    let mut high = ascending.len();
-    while low < high {
-        let middle = low + (high - low) / 2;
-        if ascending[middle] as usize <= rank as usize + middle {
-            low = middle + 1;
-        } else {
-            high = middle;
-        }
+    for position in positions.iter_mut() {
+        *position += u32::from(*position >= gap);
     }
-    low
 }
