@@ -104,6 +104,10 @@ found_peer look pairs who place it known =
 pub unknown_place : (look : Endpoint → Option Place) (pairs : List (Endpoint × ℕ)) (who : Endpoint) → IsIndexed (items_of pairs) look → look who ≡ None → place_of who (peers_by look pairs) ≡ None
 unknown_place look pairs who it none = place_indexed (peers_by look pairs) look who (indexed_peers look pairs it) ∙ ap (λ o. at_of o) none
 
+-- an endpoint's place is where it stands
+pub placed_at : (look : Endpoint → Option Place) (pairs : List (Endpoint × ℕ)) (who : Endpoint) (i : ℕ) → IsIndexed (items_of pairs) look → slice_get (items_of pairs) i ≡ Some who → place_of who (peers_by look pairs) ≡ Some i
+placed_at look pairs who i it here = place_indexed (peers_by look pairs) look who (indexed_peers look pairs it) ∙ it.found who i here
+
 pub unknown_find : (look : Endpoint → Option Place) (pairs : List (Endpoint × ℕ)) (who : Endpoint) → IsIndexed (items_of pairs) look → look who ≡ None → find (is_of who) (peers_by look pairs) ≡ None
 unknown_find look pairs who it none = find_nowhere (is_of who) (peers_by look pairs) (unknown_place look pairs who it none)
 

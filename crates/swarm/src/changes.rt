@@ -5,7 +5,7 @@ ghost use Rattle.std.specs.Prelude.{◌≡◌, ◌+◌, ◌*◌, ◌<◌, ◌≤
 ghost use Rattle.age_ring.specs.Ring.{IsYoung, items_of};
 ghost use Rattle.node_table.specs.declared.table.TheConstants.{MOST_NODES};
 ghost use Rattle.ot_base.specs.declared.peer.Held.{Held};
-ghost use Rattle.swarm.specs.Index.{IsIndexed, place_in};
+ghost use Rattle.swarm.specs.Index.{IsIndexed, Puts, place_in, with_seed};
 ghost use Rattle.swarm.specs.Members.{Expires, KeepsClock, peers_by};
 ghost use Rattle.swarm.specs.Peers.{one_if as one_if_lem, seed_one};
 
@@ -69,7 +69,19 @@ pub fn renew_at<L: Ledger>(
     ensures steps { steps.new ≤ steps.old + 16 }
 {
     ring.renew(place.at, steps);
-    index.set_seed(who, seed);
+    set_seed(index, who, place, seed);
+}
+
+/// Sets whether the endpoint that has a place is a seed. Where it stays as it was, the index isn't
+/// searched again.
+fn set_seed(index: &mut Index, who: &Endpoint, place: Place, seed: bool)
+    requires known { place_in index.old who.now ≡ Some place }
+    ensures { Puts (place_in index.old) (place_in index.new) who.now
+        (with_seed seed (place_in index.old who.now)) }
+{
+    if seed != place.seed {
+        index.set_seed(who, seed);
+    }
 }
 
 /// Takes out the peer at a place: the last one moves there.

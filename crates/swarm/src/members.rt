@@ -5,6 +5,7 @@ use crate::choice::choose_others;
 use crate::index::Index;
 use age_ring::AgeRing;
 use node_table::Steps;
+use ot_base::laws::equal_endpoints;
 use ot_base::{Endpoint, Held, Minute, Peers};
 use std::alloc::{AllocError, Global};
 use std::marker::Model;
@@ -34,6 +35,9 @@ pub struct Members {
     ring: AgeRing<Endpoint>,
     index: Index,
     seeds: u32,
+    /// The place that was put to last. An endpoint is looked for there first, since a peer is told
+    /// others right after it is put; nothing else rests on it.
+    recent: u32,
 }
 
 impl Model for Members {
@@ -51,7 +55,7 @@ impl Model for Members {
 }
 
 impl Members {
-    ghost use Rattle.std.specs.Prelude.{◌≡◌, ◌+◌, ◌*◌, ◌<◌, ◌≤◌, [], ◌⊎◌, All, true, IfOk, OnOk, OnErr, IfSome, IsSome, length, find, map, sum_by, slice_get, filter};
+    ghost use Rattle.std.specs.Prelude.{◌≡◌, ◌+◌, ◌*◌, ◌<◌, ◌≤◌, [], ◌⊎◌, All, IsTrue, true, IfOk, OnOk, OnErr, IfSome, IsSome, length, find, map, sum_by, slice_get, filter};
     ghost use Rattle.std.specs.List.Sorted.{IsPermutation};
     ghost use Rattle.age_ring.specs.Ring.{items_of, stamps_of};
     ghost use Rattle.ot_base.specs.declared.peer.Held.{Held};
@@ -68,6 +72,7 @@ impl Members {
             ring: AgeRing::new(alloc, PEER_AGES, time)?,
             index: Index::new(alloc),
             seeds: 0,
+            recent: 0,
         })
     }
 
@@ -133,8 +138,22 @@ impl Members {
     pub fn place(&self, who: &Endpoint) -> Option<u32>
         ensures { result ≡ place_of who.now self.now.peers }
     {
+        if self.stands_at(who, self.recent) {
+            return Some(self.recent);
+        }
         let place = self.index.get(who)?;
         Some(place.at)
+    }
+
+    /// Whether there is a place of that number, and an endpoint stands there.
+    fn stands_at(&self, who: &Endpoint, i: u32) -> bool
+        ensures { IsTrue result → place_of who.now self.now.peers ≡ Some i }
+    {
+        equal_endpoints();
+        if i >= self.ring.len() {
+            return false;
+        }
+        self.ring.item(i) == *who
     }
 
     /// Adds a peer, or renews it. Want of memory changes nothing.
@@ -159,11 +178,14 @@ impl Members {
                 let stood = place.seed;
                 renew_at(&mut self.ring, &mut self.index, &who, place, seed, steps);
                 self.seeds = self.seeds + one_if(seed) - one_if(stood);
+                self.recent = place.at;
                 Ok(Put::Again { seed: stood })
             }
             None => {
+                let place = self.ring.len();
                 add_last(&mut self.ring, &mut self.index, who, seed, steps)?;
                 self.seeds += one_if(seed);
+                self.recent = place;
                 Ok(Put::Fresh)
             }
         }

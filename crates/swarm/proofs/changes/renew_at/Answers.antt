@@ -21,10 +21,10 @@ returns-clause-peers g c =
     let ring = c.args.ring.now in
     let here = c.requires.indexed.there c.args.who.now c.args.place.at (ap (λ o. at_of o) c.requires.known) in
     let d : Endpoint × ℕ = (c.args.who.now, 0) in
-    ap (λ l. peers_by (place_in c.set_seed.new.self) l) (c.renew.ensures.pairs d ∙ ap (λ e. set ring.pairs c.args.place.at (e, ring.time)) (first_at ring.pairs c.args.place.at c.args.who.now d here))
-    ∙ peers_renewed (place_in c.args.index.now) (place_in c.set_seed.new.self) ring.pairs c.args.who.now c.args.place c.args.seed ring.time c.requires.indexed c.requires.known c.set_seed.ensures
+    ap (λ l. peers_by (place_in c.set_seed.new.index) l) (c.renew.ensures.pairs d ∙ ap (λ e. set ring.pairs c.args.place.at (e, ring.time)) (first_at ring.pairs c.args.place.at c.args.who.now d here))
+    ∙ peers_renewed (place_in c.args.index.now) (place_in c.set_seed.new.index) ring.pairs c.args.who.now c.args.place c.args.seed ring.time c.requires.indexed c.requires.known c.set_seed.ensures
 
 pub returns-clause-indexed : goal.returns-clause-indexed
 returns-clause-indexed g c =
-    let P : List Endpoint → Type 0 = λ l. IsIndexed l (place_in c.set_seed.new.self) in
-    subst P (sym c.renew.ensures.items) (indexed_seed (items_of c.args.ring.now.pairs) (place_in c.args.index.now) (place_in c.set_seed.new.self) c.args.who.now c.args.seed c.requires.indexed c.set_seed.ensures)
+    let P : List Endpoint → Type 0 = λ l. IsIndexed l (place_in c.set_seed.new.index) in
+    subst P (sym c.renew.ensures.items) (indexed_seed (items_of c.args.ring.now.pairs) (place_in c.args.index.now) (place_in c.set_seed.new.index) c.args.who.now c.args.seed c.requires.indexed c.set_seed.ensures)
