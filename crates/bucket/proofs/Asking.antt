@@ -1,28 +1,27 @@
 -- Stops, scrapes, scans and cleanings: what they make of the torrents, and that they tell what is
 -- right.
-use Rattle.std.proofs.Common.{◌≡◌, ℕ, ◌<◌, Bool, true, false, List, [], ◌∷◌, ◌++◌, Option, Some, None, refl, sym, ◌∙◌, ap, subst, arith, length, map, get_or, cond, if◌then◌else◌}
-use Rattle.std.specs.List.{All, AllByRecursion, AllZip, filter, find, slice_get, sum_by, swap_remove}
+use Rattle.std.proofs.Common.{◌≡◌, ℕ, Bool, true, List, [], ◌∷◌, Option, Some, None, refl, sym, ◌∙◌, ap, subst, length, if◌then◌else◌}
+use Rattle.std.specs.List.{AllByRecursion, AllZip, sum_by, swap_remove}
 use Rattle.std.specs.Option.{is_some, option_map_or, MatchOption}
 use Rattle.std.proofs.Math.ListN.{set}
 use Rattle.std.proofs.lemmas.List.Elements.{All-from_recursion, recursion_from_All}
 use Rattle.std.proofs.lemmas.List.Quantifiers.{position-Some}
 use Rattle.ot_base.specs.Address.{family_of}
-use Rattle.ot_base.specs.Same.{same_hash, same_endpoint}
-use Rattle.ot_base.proofs.SameLemmas.{same_hash_decides}
+use Rattle.ot_base.specs.Same.{same_hash}
 use Rattle.ot_base.specs.declared.hash.InfoHash.{InfoHash}
 use Rattle.ot_base.specs.declared.address.Endpoint.{Endpoint}
 use Rattle.ot_base.specs.declared.peer.Counts.{Counts}
 use Rattle.ot_base.specs.declared.peer.Held.{Held}
 use Rattle.ot_base.specs.declared.peer.Limits.{Limits}
+use Rattle.ot_base.specs.declared.peer.Mark.TheVariants.{Stopped}
 use Rattle.ot_base.specs.declared.peer.Row.{Row}
-use Rattle.tracker_model.specs.Judged.{has_known, AreRows}
+use Rattle.tracker_model.specs.Judged.{AreRows}
 use Rattle.tracker_model.specs.Settings.{Settings}
-use Rattle.tracker_model.specs.Shape.{Torrent, peers_of, held_of, torrent_of, counts_in, is_live_in, is_known_in, live_peers, live_in, known_in}
+use Rattle.tracker_model.specs.Shape.{Torrent, peers_of, torrent_of, counts_in, is_live_in, live_peers, live_in, known_in}
 use Rattle.tracker_model.specs.Stands.{AreTidy, IsTidy}
 use Rattle.tracker_model.specs.Steps.{SameAt, Takes}
-use Rattle.tracker_model.specs.declared.answer.Answer.TheVariants.{Told, Stats, Rows, Cleaned, NoMemory}
-use Rattle.tracker_model.specs.declared.call.Call.TheVariants.{Stop, Scrape, Scan, Clean}
-use Rattle.tracker_model.proofs.Cases.{by_test}
+use Rattle.tracker_model.specs.declared.answer.Answer.TheVariants.{Told, Stats, Rows, Cleaned, Applied, NoMemory}
+use Rattle.tracker_model.specs.declared.call.Call.TheVariants.{Stop, Scrape, Scan, Clean, Sync}
 use Rattle.age_ring.proofs.Pairs.{All-swap_remove}
 use Rattle.swarm.specs.Peers.{is_of, no_peer}
 use Rattle.swarm.specs.Peers as peers
@@ -32,7 +31,7 @@ use Rattle.bucket.specs.Table.{Table, IsSound}
 use Rattle.bucket.specs.Torrents.{Freshens, Turns, of_family, place_of, tally, without_peer}
 use Rattle.bucket.proofs.LivePeers.{filter_all, live_fresh}
 use Rattle.bucket.proofs.Judging.{Settles}
-use Rattle.bucket.proofs.KeptLemmas.{live_found, found_before, hash_after, tidy_before, same_turned, same_freshened, hash_left, takes_left}
+use Rattle.bucket.proofs.KeptLemmas.{live_found, hash_after, tidy_before, same_turned, same_freshened, hash_left, takes_left}
 use Rattle.bucket.proofs.Looked.{all_found, found_at, found_set, itself, places_kept}
 use Rattle.bucket.proofs.Settling.{has_known-stored, known_kept, live_of_family, live_with, table_of}
 use Rattle.bucket.proofs.ToldLemmas.{AreLive, counts_none, counts_some, sum_by_same}
@@ -162,17 +161,29 @@ are_rows limits now torrents sound all rows are = record {
 -- ---- what settles
 
 module _ (g : Settings) (now : ℕ) (kept new : List Torrent) (sound : IsSound (table_of g.limits now kept)) (sound_new : IsSound (table_of g.limits now new)) where
-  pub stop_settles : (h : InfoHash) (who : Endpoint) (opened : List Torrent) → IsSound (table_of g.limits now opened) → SameAt now kept opened → Takes now h who opened new → IsLivelyAt now h new →
-      (counts : Counts) → counts ≡ found_counts (table_of g.limits now new) h → Settles g now (Stop h who) (Told counts []) kept new
-  stop_settles h who opened sound_opened same takes lively counts counted = record {
-    right = ap (λ c. Told c []) (counted ∙ counts_found g.limits now new sound_new h lively);
-    step = record {
-      tidy = takes.tidy;
-      peer = takes.peer;
-      other_peers = λ k d apart. takes.other_peers k d apart ∙ same.peers k d;
-      torrents = λ k. takes.torrents k ∙ same.torrents k;
-    };
+  -- an endpoint that left once stale peers had gone
+  takes_kept : (h : InfoHash) (who : Endpoint) (opened : List Torrent) → SameAt now kept opened → Takes now h who opened new → Takes now h who kept new
+  takes_kept h who opened same takes = record {
+    tidy = takes.tidy;
+    peer = takes.peer;
+    other_peers = λ k d apart. takes.other_peers k d apart ∙ same.peers k d;
+    torrents = λ k. takes.torrents k ∙ same.torrents k;
   }
+
+  pub stop_settles : (h : InfoHash) (who : Endpoint) (opened : List Torrent) → SameAt now kept opened → Takes now h who opened new → IsLivelyAt now h new →
+      (counts : Counts) → counts ≡ found_counts (table_of g.limits now new) h → Settles g now (Stop h who) (Told counts []) kept new
+  stop_settles h who opened same takes lively counts counted = record {
+    right = ap (λ c. Told c []) (counted ∙ counts_found g.limits now new sound_new h lively);
+    step = takes_kept h who opened same takes;
+  }
+
+  -- there is no memory for a stop's note
+  pub stop_wants : (h : InfoHash) (who : Endpoint) → g.sync ≡ true → Settles g now (Stop h who) NoMemory kept kept
+  stop_wants h who on = record { right = on; step = record { tidy = sound.tidy; peers = λ k d. refl; torrents = λ k. refl } }
+
+  -- another node says that an endpoint has stopped
+  pub stopped_settles : (h : InfoHash) (who : Endpoint) (opened : List Torrent) → SameAt now kept opened → Takes now h who opened new → Settles g now (Sync h who Stopped) Applied kept new
+  stopped_settles h who opened same takes = record { right = refl; step = takes_kept h who opened same takes }
 
   pub scrape_settles : (h : InfoHash) → SameAt now kept new → IsLivelyAt now h new → (counts : Counts) (known : Bool) → counts ≡ found_counts (table_of g.limits now new) h → known ≡ is_some (torrent_of new h) →
       Settles g now (Scrape h) (Stats counts known) kept new

@@ -1,9 +1,9 @@
--- What a call makes of a bucket, by the tables before and after it: it stands for the history with
--- the call, and keeps what it promises beside that.
-use Rattle.std.proofs.Common.{◌≡◌, ℕ, ◌≤◌, max, Bool, true, false, not, ◌&&◌, List, [], ◌∷◌, Option, Some, None, Result, Ok, Err, IfOk, MatchResult, refl, sym, ◌∙◌, ap, subst, length, if◌then◌else◌}
-use Rattle.std.specs.List.{All, AllByRecursion, AllZip, slice_get, slice_set, sum_by}
+-- What an announce makes of a bucket, by the tables before and after it: it stands for the history
+-- with the call, and keeps what it promises beside that.
+use Rattle.std.proofs.Common.{◌≡◌, ℕ, ◌≤◌, max, Bool, true, false, not, ◌&&◌, List, Option, Some, None, Result, Ok, Err, IfErr, is_err, MatchResult, refl, sym, ◌∙◌, ap, subst, length, if◌then◌else◌}
+use Rattle.std.specs.List.{All, slice_get, slice_set}
 use Rattle.std.specs.Option.{is_some, is_none, MatchOption}
-use Rattle.std.proofs.lemmas.List.Elements.{All-from_recursion, recursion_from_All}
+use Rattle.std.proofs.lemmas.List.Elements.{recursion_from_All}
 use Rattle.ot_base.specs.Address.{family_of}
 use Rattle.ot_base.specs.Same.{same_hash}
 use Rattle.ot_base.specs.declared.hash.InfoHash.{InfoHash}
@@ -12,68 +12,57 @@ use Rattle.ot_base.specs.declared.address.Family.TheVariants.{Four, Six}
 use Rattle.ot_base.specs.declared.minute.Minute.{Minute}
 use Rattle.ot_base.specs.declared.peer.Counts.{Counts}
 use Rattle.ot_base.specs.declared.peer.Limits.{Limits}
-use Rattle.ot_base.specs.declared.peer.Row.{Row}
+use Rattle.ot_base.specs.declared.peer.Note.{Note}
 use Rattle.tracker_model.specs.Calls.{IsWellFormed}
 use Rattle.tracker_model.specs.Kinds.{IsKindOf}
-use Rattle.tracker_model.specs.Making.{scanned}
+use Rattle.tracker_model.specs.Outbox.{is_drain, note_of}
 use Rattle.tracker_model.specs.Settings.{Settings}
 use Rattle.tracker_model.specs.Shape.{Shape, Torrent, peers_of, held_of, torrent_of, is_live_in, is_known_in}
-use Rattle.tracker_model.specs.Stands.{IsTidy}
-use Rattle.tracker_model.specs.Steps.{SameAt}
+use Rattle.tracker_model.specs.Stands.{AreTidy, IsTidy}
 use Rattle.tracker_model.specs.declared.answer.Answer.{Answer}
-use Rattle.tracker_model.specs.declared.answer.Answer.TheVariants.{Told, Stats, Rows, Cleaned, NoMemory}
+use Rattle.tracker_model.specs.declared.answer.Answer.TheVariants.{Told}
 use Rattle.tracker_model.specs.declared.call.Call.{Call}
-use Rattle.tracker_model.specs.declared.call.Call.TheVariants.{Announce, Stop, Scrape, Scan, Clean}
 use Rattle.swarm.specs.Peers.{choice_of, endpoints_of}
 use Rattle.swarm.proofs.PlaceLemmas.{find_nowhere}
-use Rattle.bucket.specs.Answers.{error_answer}
-use Rattle.bucket.specs.Calls.{Announces, AreRowsOf, Cleans, Forgets, Joins, JoinsAt, Opens, Scrapes, Stays, Stops}
-use Rattle.bucket.specs.Public.{AreInOrder, IsChosen, IsFresh, KeepsOrder}
+use Rattle.bucket.specs.Answers.{announced, error_answer}
+use Rattle.bucket.specs.Calls.{Announces, Forgets, Joins, Refused, Refuses, Stays, announce_of}
+use Rattle.bucket.specs.Outbox.{Gets, OutboxShape, settings_with}
+use Rattle.bucket.specs.Public.{AreInOrder, IsChosen, KeepsOrder}
 use Rattle.bucket.specs.Table.{Table, IsSound}
-use Rattle.bucket.specs.Torrents.{Freshens, Turns, of_family, place_of, tally, with_peer, without_peer}
+use Rattle.bucket.specs.Torrents.{Freshens, of_family, place_of, tally, with_peer}
 use Rattle.bucket.specs.Torrents.{if_known as kept_torrent}
 use Rattle.bucket.specs.declared.joining.Joining.{Joining}
 use Rattle.bucket.specs.declared.joining.JoinError.{JoinError}
 use Rattle.bucket.specs.declared.joining.JoinError.TheVariants.{SwarmFull, BucketFull, NoMemory as MemoryIsWanted}
-use Rattle.bucket.proofs.Asking.{IsLivelyAt, opened_same, opened_lively, leaves_step, leaves_lively, lively, stop_settles, scrape_settles, clean_settles, scan_settles, scan_wants}
 use Rattle.bucket.proofs.Families.{held_of-family, in_families}
-use Rattle.bucket.proofs.Judging.{Settles, StandsOn, settled, shape_of}
-use Rattle.bucket.proofs.KeptLemmas.{found_before, hash_after, hash_joined, tidy_before, tidy_found}
+use Rattle.bucket.proofs.Judging.{Settles, StandsOn, no_note, note_for, settled, shape_with}
+use Rattle.bucket.proofs.KeptLemmas.{found_before, hash_after, hash_joined, tidy_found}
 use Rattle.bucket.proofs.Looked.{found_set, itself}
 use Rattle.bucket.proofs.OrderLemmas.{order_joined, unchanged}
-use Rattle.bucket.proofs.Settling.{IsTold, answer_of, announce_settles, call_of, table_of}
+use Rattle.bucket.proofs.Settling.{IsTold, announce_settles, outcome_of, refuse_settles, refused_of, table_of}
 use Rattle.bucket.proofs.ToldLemmas.{choice_kind}
 
--- a bucket by its table
-abbrev pub bucket_of : Bool → Table → Shape
-bucket_of sync t = shape_of (record { limits = t.limits; sync = sync }) t.time t.torrents
+-- a bucket by its table and its outbox
+abbrev pub bucket_of : OutboxShape → Table → Shape
+bucket_of box t = shape_with t.limits box t.time t.torrents
 
-as_table : (limits : Limits) (now : ℕ) (t : Table) → t.limits ≡ limits → t.time ≡ now → t ≡ table_of limits now t.torrents
+pub gets_itself : (box : OutboxShape) → Gets None box box
+gets_itself box = record { sync = refl; notes = λ l. refl; dropped = λ l. refl }
+
+-- a call that makes no note
+pub gets_nothing : (call : Call) (answer : Answer) → note_of call ≡ None → (box : OutboxShape) → Gets (note_for call answer) box box
+gets_nothing call answer none box = let G : Option Note → Type 0 = λ n. Gets n box box in subst G (sym (no_note call answer none)) (gets_itself box)
+
+pub as_table : (limits : Limits) (now : ℕ) (t : Table) → t.limits ≡ limits → t.time ≡ now → t ≡ table_of limits now t.torrents
 as_table limits now t same_limits same_time = λ i. record { limits = same_limits i; time = same_time i; torrents = t.torrents }
 
--- the bucket before may be the one of its fields, and its call the one that was matched
-module _ (caller : ℕ) (minute : Minute) (now : ℕ) (sync : Bool) (old : Table) (was : Shape) (is_old : bucket_of sync old ≡ was) (call told : Call) (is : call ≡ told) where
-  pub stands_as : was.settings.sync ≡ false → now ≡ max minute.0 was.time → (answer : Answer) (new : Table) →
-      (sync ≡ false → now ≡ max minute.0 old.time → StandsOn caller minute told answer (bucket_of sync old) (bucket_of sync new)) → StandsOn caller minute call answer was (bucket_of sync new)
-  stands_as alone later answer new stands =
-      let Called : Call → Type 0 = λ k. StandsOn caller minute k answer (bucket_of sync old) (bucket_of sync new) in
-      let From : Shape → Type 0 = λ s. StandsOn caller minute call answer s (bucket_of sync new) in
-      subst From is_old (subst Called (sym is) (stands (ap (λ s. s.settings.sync) is_old ∙ alone) (later ∙ ap (λ s. max minute.0 s.time) (sym is_old))))
+pub on_err : {X E : Type 0} (r : Result X E) (P : Type 0) → is_err r ≡ true → IfErr r (λ _. P) → P
+on_err (Ok x) P is it = absurd (let clash : false ≡ true = is in cc)
+on_err (Err e) P is it = it
 
-  pub order_as : (new : Table) → KeepsOrder told (bucket_of sync old) (bucket_of sync new) → KeepsOrder call was (bucket_of sync new)
-  order_as new keeps =
-      let Called : Call → Type 0 = λ k. KeepsOrder k (bucket_of sync old) (bucket_of sync new) in
-      let From : Shape → Type 0 = λ s. KeepsOrder call s (bucket_of sync new) in
-      subst From is_old (subst Called (sym is) keeps)
-
-  pub kind_as : (answer : Answer) → IsKindOf (record { limits = old.limits; sync = sync }) told answer → IsKindOf was.settings call answer
-  kind_as answer kind =
-      let Called : Call → Type 0 = λ k. IsKindOf (record { limits = old.limits; sync = sync }) k answer in
-      let From : Shape → Type 0 = λ s. IsKindOf s.settings call answer in
-      subst From is_old (subst Called (sym is) kind)
-
-pub formed_as : (call told : Call) → call ≡ told → IsWellFormed call → IsWellFormed told
-formed_as call told is formed = let P : Call → Type 0 = λ k. IsWellFormed k in subst P is formed
+-- the bucket before may be the one of its fields
+pub later_as : (minute : Minute) (now : ℕ) (box : OutboxShape) (old : Table) (was : Shape) → bucket_of box old ≡ was → now ≡ max minute.0 was.time → now ≡ max minute.0 old.time
+later_as minute now box old was is_old later = later ∙ ap (λ (s : Shape). max minute.0 s.time) (sym is_old)
 
 -- a table from which another one came, when both have the old limits and stand at the minute
 module _ (now : ℕ) (old forgotten new : Table) (forgets : Forgets now old forgotten) (stays : Stays forgotten new) where
@@ -93,12 +82,26 @@ module _ (now : ℕ) (old forgotten new : Table) (forgets : Forgets now old forg
   same_limits = stays.limits ∙ forgets.limits
 
   -- what settles stands
-  pub stands_by : (sync : Bool) → sync ≡ false → (caller : ℕ) (minute : Minute) → now ≡ max minute.0 old.time → (call : Call) (answer : Answer) → IsWellFormed call →
-      Settles (record { limits = old.limits; sync = sync }) now call answer forgotten.torrents new.torrents → StandsOn caller minute call answer (bucket_of sync old) (bucket_of sync new)
-  stands_by sync alone caller minute later call answer formed settles =
-      let S : Table → Type 0 = λ t. StandsOn caller minute call answer (bucket_of sync old) (bucket_of sync t) in
-      subst S (sym is_new)
-      (settled (record { limits = old.limits; sync = sync }) caller minute call answer old.time now old.torrents forgotten.torrents new.torrents alone formed later sound_forgotten.tidy forgets.found settles)
+  pub stands_by : (box next : OutboxShape) (caller : ℕ) (minute : Minute) → now ≡ max minute.0 old.time → (call : Call) (answer : Answer) → is_drain call ≡ false → Gets (note_for call answer) box next → IsWellFormed call →
+      Settles (settings_with old.limits box) now call answer forgotten.torrents new.torrents → StandsOn caller minute call answer (bucket_of box old) (bucket_of next new)
+  stands_by box next caller minute later call answer drains gets formed settles =
+      let S : Table → Type 0 = λ t. StandsOn caller minute call answer (bucket_of box old) (bucket_of next t) in
+      subst S (sym is_new) (settled old.limits box next caller minute call answer old.time now old.torrents forgotten.torrents new.torrents drains gets formed later sound_forgotten.tidy forgets.found settles)
+
+-- ---- a torrent of which nothing goes
+
+some_same : (a b : Torrent) → Some a ≡ Some b → a ≡ b
+some_same a b e = cc
+
+-- it is left where it is known
+found_left : (now : ℕ) (old forgotten : Table) → Forgets now old forgotten → (h : InfoHash) (before : Torrent) → torrent_of old.torrents h ≡ Some before → is_known_in now before ≡ true → torrent_of forgotten.torrents h ≡ Some before
+found_left now old forgotten forgets h before found known = forgets.found h ∙ ap (λ o. kept_torrent now o) found ∙ ap (λ b. if b then Some before else None) known
+
+-- it is the one whose stale peers go
+fresh_there : (now : ℕ) (h : InfoHash) (i : ℕ) (kept : List Torrent) (before : Torrent) → AreTidy kept → torrent_of kept h ≡ Some before → place_of h kept ≡ Some i → (b torrent : Torrent) → slice_get kept i ≡ Some b → Freshens now b torrent → Freshens now before torrent
+fresh_there now h i kept before tidy found at b torrent stood freshens =
+    let Fresh : Torrent → Type 0 = λ t. Freshens now t torrent in
+    subst Fresh (some_same b before (sym (found_before now h i kept b torrent tidy at stood freshens) ∙ found)) freshens
 
 -- ---- an announce
 
@@ -109,40 +112,43 @@ module _ (now : ℕ) (old new : Table) (j : Joining) (want : ℕ) (few : want �
       let N : Table → Type 0 = λ t. Joins (place_of j.hash it.forgotten.torrents) j (table_of old.limits now it.forgotten.torrents) t result in
       subst N (is_new now old it.forgotten new it.forgets it.stays) (subst F (is_forgotten now old it.forgotten new it.forgets it.stays) it.joins)
 
-  pub announce_stands : (sync : Bool) → sync ≡ false → (caller : ℕ) (minute : Minute) → now ≡ max minute.0 old.time → IsWellFormed (call_of j want) →
-      StandsOn caller minute (call_of j want) (answer_of old.limits told result) (bucket_of sync old) (bucket_of sync new)
-  announce_stands sync alone caller minute later formed =
-      stands_by now old it.forgotten new it.forgets it.stays sync alone caller minute later (call_of j want) (answer_of old.limits told result) formed
-      (announce_settles (record { limits = old.limits; sync = sync }) alone now j words enough want few it.forgotten.torrents new.torrents told
-      (sound_forgotten now old it.forgotten new it.forgets it.stays) (sound_new now old it.forgotten new it.forgets it.stays) result joins_by it.answers)
+  pub announce_stands : (box next : OutboxShape) (caller : ℕ) (minute : Minute) → now ≡ max minute.0 old.time → Gets (note_for (announce_of j want) (announced old.limits told result)) box next → IsWellFormed (announce_of j want) →
+      StandsOn caller minute (announce_of j want) (announced old.limits told result) (bucket_of box old) (bucket_of next new)
+  announce_stands box next caller minute later gets formed =
+      let g = settings_with old.limits box in
+      let sound = sound_forgotten now old it.forgotten new it.forgets it.stays in
+      let sound_after = sound_new now old it.forgotten new it.forgets it.stays in
+      stands_by now old it.forgotten new it.forgets it.stays box next caller minute later (announce_of j want) (announced old.limits told result) refl gets formed
+      (announce_settles g now j it.forgotten.torrents new.torrents sound_after words enough want few told result
+      (outcome_of g now j it.forgotten.torrents new.torrents sound sound_after result joins_by) it.answers)
 
   -- of the right kind
   told_kind : (g : Settings) (counts : Counts) (o : Option Torrent) → torrent_of new.torrents j.hash ≡ o →
-      MatchOption o ⊥ (λ torrent. (counts ≡ tally torrent) × (told ≡ choice_of words j.who want (of_family (family_of j.who.addr) torrent))) → IsKindOf g (call_of j want) (Told counts told)
+      MatchOption o ⊥ (λ torrent. (counts ≡ tally torrent) × (told ≡ choice_of words j.who want (of_family (family_of j.who.addr) torrent))) → IsKindOf g (announce_of j want) (Told counts told)
   told_kind g counts None found says = absurd says
   told_kind g counts (Some t) found says =
-      let K : List Endpoint → Type 0 = λ l. IsKindOf g (call_of j want) (Told counts l) in
+      let K : List Endpoint → Type 0 = λ l. IsKindOf g (announce_of j want) (Told counts l) in
       subst K (sym says.1) (choice_kind words enough j.who want few t (tidy_found new.torrents j.hash t it.stays.sound.tidy found))
 
-  pub announce_kind : (sync : Bool) → IsKindOf (record { limits = old.limits; sync = sync }) (call_of j want) (answer_of old.limits told result)
-  announce_kind sync = by_result result it.answers
+  pub announce_kind : (box : OutboxShape) → IsKindOf (settings_with old.limits box) (announce_of j want) (announced old.limits told result)
+  announce_kind box = by_result result it.answers
     where
-      by_result : (r : Result Counts JoinError) → MatchResult r (λ counts. IsTold words j want new.torrents told counts) (λ error. Unit {0}) → IsKindOf (record { limits = old.limits; sync = sync }) (call_of j want) (answer_of old.limits told r)
-      by_result (Ok counts) says = told_kind (record { limits = old.limits; sync = sync }) counts (torrent_of new.torrents j.hash) refl says
+      by_result : (r : Result Counts JoinError) → MatchResult r (λ counts. IsTold words j want new.torrents told counts) (λ error. Unit {0}) → IsKindOf (settings_with old.limits box) (announce_of j want) (announced old.limits told r)
+      by_result (Ok counts) says = told_kind (settings_with old.limits box) counts (torrent_of new.torrents j.hash) refl says
       by_result (Err SwarmFull) says = refl
       by_result (Err BucketFull) says = refl
       by_result (Err MemoryIsWanted) says = tt
 
   -- with the peers that the words choose
-  pub announce_chosen : (sync : Bool) → IsChosen words (bucket_of sync new) (call_of j want) (answer_of old.limits told result)
-  announce_chosen sync = by_result result it.answers
+  pub announce_chosen : (next : OutboxShape) → IsChosen words (bucket_of next new) (announce_of j want) (announced old.limits told result)
+  announce_chosen next = by_result result it.answers
     where
       by_found : (counts : Counts) (o : Option Torrent) → MatchOption o ⊥ (λ torrent. (counts ≡ tally torrent) × (told ≡ choice_of words j.who want (of_family (family_of j.who.addr) torrent))) →
           MatchOption o ⊥ (λ torrent. told ≡ choice_of words j.who want (of_family (family_of j.who.addr) torrent))
       by_found counts None says = says
       by_found counts (Some t) says = says.1
 
-      by_result : (r : Result Counts JoinError) → MatchResult r (λ counts. IsTold words j want new.torrents told counts) (λ error. Unit {0}) → IsChosen words (bucket_of sync new) (call_of j want) (answer_of old.limits told r)
+      by_result : (r : Result Counts JoinError) → MatchResult r (λ counts. IsTold words j want new.torrents told counts) (λ error. Unit {0}) → IsChosen words (bucket_of next new) (announce_of j want) (announced old.limits told r)
       by_result (Ok counts) says = by_found counts (torrent_of new.torrents j.hash) says
       by_result (Err SwarmFull) says = tt
       by_result (Err BucketFull) says = tt
@@ -151,16 +157,14 @@ module _ (now : ℕ) (old new : Table) (j : Joining) (want : ℕ) (few : want �
   -- in the order of the torrent, where nothing of it goes and the endpoint is one of its peers
   module _ (before : Torrent) (found : torrent_of old.torrents j.hash ≡ Some before) (known : is_known_in now before ≡ true) (live : All (λ held. is_live_in now held ≡ true) (peers_of before)) (stored : is_some (held_of (peers_of before) j.who) ≡ true) where
     found_kept : torrent_of it.forgotten.torrents j.hash ≡ Some before
-    found_kept = it.forgets.found j.hash ∙ ap (λ o. kept_torrent now o) found ∙ ap (λ b. if b then Some before else None) known
+    found_kept = found_left now old it.forgotten it.forgets j.hash before found known
 
     at_place : (i : ℕ) → place_of j.hash it.forgotten.torrents ≡ Some i → (b torrent : Torrent) → slice_get it.forgotten.torrents i ≡ Some b → Freshens now b torrent → (r : Result Counts JoinError) →
         MatchResult r (λ done. new.torrents ≡ slice_set it.forgotten.torrents i (with_peer now j torrent)) (λ error. is_none (held_of (of_family (family_of j.who.addr) torrent) j.who) ≡ true) →
         MatchOption (torrent_of new.torrents j.hash) ⊥ (AreInOrder before)
     at_place i at b torrent stood freshens r joins =
         let tidy_all = (sound_forgotten now old it.forgotten new it.forgets it.stays).tidy in
-        let same : b ≡ before = some_same b before (sym (found_before now j.hash i it.forgotten.torrents b torrent tidy_all at stood freshens) ∙ found_kept) in
-        let Fresh : Torrent → Type 0 = λ t. Freshens now t torrent in
-        let fresh : Freshens now before torrent = subst Fresh same freshens in
+        let fresh = fresh_there now j.hash i it.forgotten.torrents before tidy_all found_kept at b torrent stood freshens in
         let tidy : IsTidy before = tidy_found it.forgotten.torrents j.hash before tidy_all found_kept in
         let own = family_of j.who.addr in
         let like = unchanged now before torrent fresh (recursion_from_All (λ held. is_live_in now held ≡ true) (peers_of before) live) in
@@ -168,9 +172,6 @@ module _ (now : ℕ) (old new : Table) (j : Joining) (want : ℕ) (few : want �
         ap (λ l. is_some (held_of l j.who)) (like own) ∙ ap (λ o. is_some o) (sym (held_of-family own before j.who (in_families before tidy) refl)) ∙ stored in
         by_result torrent (like Four) (like Six) there (hash_after now j.hash i it.forgotten.torrents b torrent tidy_all at stood freshens) r joins
       where
-        some_same : (a b : Torrent) → Some a ≡ Some b → a ≡ b
-        some_same a b e = cc
-
         by_result : (torrent : Torrent) → torrent.fours ≡ before.fours → torrent.sixes ≡ before.sixes → is_some (held_of (of_family (family_of j.who.addr) torrent) j.who) ≡ true → torrent.hash ≡ j.hash → (r : Result Counts JoinError) →
             MatchResult r (λ done. new.torrents ≡ slice_set it.forgotten.torrents i (with_peer now j torrent)) (λ error. is_none (held_of (of_family (family_of j.who.addr) torrent) j.who) ≡ true) →
             MatchOption (torrent_of new.torrents j.hash) ⊥ (AreInOrder before)
@@ -200,93 +201,63 @@ module _ (now : ℕ) (old new : Table) (j : Joining) (want : ℕ) (few : want �
             let F : ℕ → Type 0 = λ n. Freshens n joins.before joins.torrent in
             at_place i at joins.before joins.torrent joins.stood (subst F it.forgets.time joins.freshens) result (weaker joins.torrent i _ _ result joins.joins)
 
-  pub announce_order : (sync : Bool) → KeepsOrder (call_of j want) (bucket_of sync old) (bucket_of sync new)
-  announce_order sync before found known live stored =
+  pub announce_order : (box next : OutboxShape) → KeepsOrder (announce_of j want) (bucket_of box old) (bucket_of next new)
+  announce_order box next before found known live stored =
       let at : new.time ≡ now = it.stays.time ∙ it.forgets.time in
       let K : ℕ → Type 0 = λ n. is_known_in n before ≡ true in
       let L : ℕ → Type 0 = λ n. All (λ held. is_live_in n held ≡ true) (peers_of before) in
       order_at before found (subst K at known) (subst L at live) stored
 
--- ---- a stop and a scrape
+-- ---- an announce that there is no memory for
 
-module _ (now : ℕ) (h : InfoHash) (old opened : Table) (place : Option ℕ) (opens : Opens now h old opened place) where
-  freshens_by : MatchOption place (table_of old.limits now opened.torrents ≡ table_of old.limits now opens.forgotten.torrents) (λ i. Turns i (Freshens now) opens.forgotten.torrents opened.torrents)
-  freshens_by =
-      let F : Table → Type 0 = λ t. MatchOption place (t ≡ opens.forgotten) (λ i. Turns i (Freshens now) opens.forgotten.torrents opened.torrents) in
-      let G : Table → Type 0 = λ t. MatchOption place (table_of old.limits now opened.torrents ≡ t) (λ i. Turns i (Freshens now) opens.forgotten.torrents opened.torrents) in
-      subst G (is_forgotten now old opens.forgotten opened opens.forgets opens.stays) (subst F (is_new now old opens.forgotten opened opens.forgets opens.stays) opens.freshens)
+pub error_kind : (g : Settings) (j : Joining) (want : ℕ) (error : JoinError) → IsKindOf g (announce_of j want) (error_answer g.limits error)
+error_kind g j want SwarmFull = refl
+error_kind g j want BucketFull = refl
+error_kind g j want MemoryIsWanted = tt
 
-  same_opened : SameAt now opens.forgotten.torrents opened.torrents
-  same_opened = opened_same old.limits now h opens.forgotten.torrents opened.torrents (sound_forgotten now old opens.forgotten opened opens.forgets opens.stays) (sound_new now old opens.forgotten opened opens.forgets opens.stays) place opens.stands freshens_by
+pub error_chosen : (words : List ℕ) (bucket : Shape) (j : Joining) (want : ℕ) (limits : Limits) (error : JoinError) → IsChosen words bucket (announce_of j want) (error_answer limits error)
+error_chosen words bucket j want limits SwarmFull = tt
+error_chosen words bucket j want limits BucketFull = tt
+error_chosen words bucket j want limits MemoryIsWanted = tt
 
-  lively_opened : IsLivelyAt now h opened.torrents
-  lively_opened = opened_lively old.limits now h opens.forgotten.torrents opened.torrents (sound_forgotten now old opens.forgotten opened opens.forgets opens.stays) (sound_new now old opens.forgotten opened opens.forgets opens.stays) place opens.stands freshens_by
+pub error_unnoted : (call : Call) (limits : Limits) (error : JoinError) → note_for call (error_answer limits error) ≡ None
+error_unnoted call limits SwarmFull = refl
+error_unnoted call limits BucketFull = refl
+error_unnoted call limits MemoryIsWanted = refl
 
-module _ (now : ℕ) (h : InfoHash) (old new : Table) (sync : Bool) (alone : sync ≡ false) (caller : ℕ) (minute : Minute) (later : now ≡ max minute.0 old.time) where
-  pub scrape_stands : (counts : Counts) (known : Bool) → Scrapes now h old new counts known → StandsOn caller minute (Scrape h) (Stats counts known) (bucket_of sync old) (bucket_of sync new)
-  scrape_stands counts known it =
-      let o = it.opens in
-      stands_by now old o.forgotten new o.forgets o.stays sync alone caller minute later (Scrape h) (Stats counts known) tt
-      (scrape_settles (record { limits = old.limits; sync = sync }) now o.forgotten.torrents new.torrents (sound_forgotten now old o.forgotten new o.forgets o.stays) (sound_new now old o.forgotten new o.forgets o.stays) h
-      (same_opened now h old new it.place o) (lively_opened now h old new it.place o) counts known it.counted it.stored)
+module _ (now : ℕ) (old new : Table) (j : Joining) (want : ℕ) (error : JoinError) (it : Refuses now j.hash j.who old new error) where
+  refused_by : Refused (place_of j.hash it.forgotten.torrents) j.who (table_of old.limits now it.forgotten.torrents) (table_of old.limits now new.torrents) error
+  refused_by =
+      let F : Table → Type 0 = λ t. Refused (place_of j.hash it.forgotten.torrents) j.who t new error in
+      let N : Table → Type 0 = λ t. Refused (place_of j.hash it.forgotten.torrents) j.who (table_of old.limits now it.forgotten.torrents) t error in
+      subst N (is_new now old it.forgotten new it.forgets it.stays) (subst F (is_forgotten now old it.forgotten new it.forgets it.stays) it.refused)
 
-  pub stop_stands : (who : Endpoint) (counts : Counts) → Stops now h who old new counts → IsWellFormed (Stop h who) → StandsOn caller minute (Stop h who) (Told counts []) (bucket_of sync old) (bucket_of sync new)
-  stop_stands who counts it formed =
-      let o = it.opens in
-      let stays : Stays o.forgotten new = record { limits = it.stays.limits ∙ o.stays.limits; time = it.stays.time ∙ o.stays.time; sound = it.stays.sound } in
-      let sound_opened = sound_new now old o.forgotten it.opened o.forgets o.stays in
-      let sound_after = sound_new now old o.forgotten new o.forgets stays in
-      let N : Table → Type 0 = λ t. MatchOption it.place (t ≡ it.opened) (λ i. Turns i (λ before after. after ≡ without_peer who before) it.opened.torrents new.torrents) in
-      let O : Table → Type 0 = λ t. MatchOption it.place (table_of old.limits now new.torrents ≡ t) (λ i. Turns i (λ before after. after ≡ without_peer who before) it.opened.torrents new.torrents) in
-      let leaves : O (table_of old.limits now it.opened.torrents) = subst O (is_new now old o.forgotten it.opened o.forgets o.stays) (subst N (is_new now old o.forgotten new o.forgets stays) it.leaves) in
-      stands_by now old o.forgotten new o.forgets stays sync alone caller minute later (Stop h who) (Told counts []) formed
-      (stop_settles (record { limits = old.limits; sync = sync }) now o.forgotten.torrents new.torrents (sound_forgotten now old o.forgotten new o.forgets stays) sound_after h who it.opened.torrents sound_opened
-      (same_opened now h old it.opened it.place o)
-      (leaves_step old.limits now h who it.opened.torrents new.torrents sound_opened sound_after it.place o.stands leaves)
-      (leaves_lively old.limits now h who it.opened.torrents new.torrents sound_opened sound_after (lively_opened now h old it.opened it.place o) it.place o.stands leaves)
-      counts it.counted)
+  pub refuse_stands : (box next : OutboxShape) → box.sync ≡ true → (caller : ℕ) (minute : Minute) → now ≡ max minute.0 old.time → Gets None box next → IsWellFormed (announce_of j want) →
+      StandsOn caller minute (announce_of j want) (error_answer old.limits error) (bucket_of box old) (bucket_of next new)
+  refuse_stands box next on caller minute later gets formed =
+      let g = settings_with old.limits box in
+      let G : Option Note → Type 0 = λ n. Gets n box next in
+      stands_by now old it.forgotten new it.forgets it.stays box next caller minute later (announce_of j want) (error_answer old.limits error) refl (subst G (sym (error_unnoted (announce_of j want) old.limits error)) gets) formed
+      (refuse_settles g now j it.forgotten.torrents new.torrents on want error
+      (refused_of g now j it.forgotten.torrents new.torrents (sound_forgotten now old it.forgotten new it.forgets it.stays) (sound_new now old it.forgotten new it.forgets it.stays) error refused_by))
 
--- ---- a cleaning and a scan
+  module _ (before : Torrent) (found : torrent_of it.forgotten.torrents j.hash ≡ Some before) (live : All (λ held. is_live_in now held ≡ true) (peers_of before)) where
+    refused_order : (o : Option ℕ) → place_of j.hash it.forgotten.torrents ≡ o → Refused o j.who (table_of old.limits now it.forgotten.torrents) (table_of old.limits now new.torrents) error → MatchOption (torrent_of new.torrents j.hash) ⊥ (AreInOrder before)
+    refused_order None none refused = absurd (let clash : Some before ≡ None = sym found ∙ find_nowhere (λ u. same_hash j.hash u.hash) it.forgotten.torrents none in cc)
+    refused_order (Some i) at refused =
+        let kept = it.forgotten.torrents in
+        let tidy = (sound_forgotten now old it.forgotten new it.forgets it.stays).tidy in
+        let fresh = fresh_there now j.hash i kept before tidy found at refused.before refused.torrent refused.stood refused.freshens in
+        let like = unchanged now before refused.torrent fresh (recursion_from_All (λ held. is_live_in now held ≡ true) (peers_of before) live) in
+        let hash = hash_after now j.hash i kept refused.before refused.torrent tidy at refused.stood refused.freshens in
+        let stands : torrent_of new.torrents j.hash ≡ Some refused.torrent =
+        ap (λ l. torrent_of l j.hash) refused.set ∙ found_set j.hash kept i refused.torrent at hash j.hash ∙ ap (λ b. if b then Some refused.torrent else torrent_of kept j.hash) (itself j.hash) in
+        let P : Option Torrent → Type 0 = λ o. MatchOption o ⊥ (AreInOrder before) in
+        subst P (sym stands) (record { fours = ap (λ l. endpoints_of l) (like Four); sixes = ap (λ l. endpoints_of l) (like Six) })
 
-module _ (now : ℕ) (old new : Table) (it : Cleans now old new) where
-  sound_kept : IsSound (table_of old.limits now it.forgotten.torrents)
-  sound_kept = sound_forgotten now old it.forgotten new it.forgets it.stays
-
-  sound_after : IsSound (table_of old.limits now new.torrents)
-  sound_after = sound_new now old it.forgotten new it.forgets it.stays
-
-  pub cleaned_fresh : (sync : Bool) → IsFresh (bucket_of sync new)
-  cleaned_fresh sync = record {
-    known = it.stays.sound.known;
-    live =
-        let at : new.time ≡ now = it.stays.time ∙ it.forgets.time in
-        let L : ℕ → Type 0 = λ n. All (λ torrent. All (λ held. is_live_in n held ≡ true) (peers_of torrent)) new.torrents in
-        subst L (sym at) (All-from_recursion (λ torrent. All (λ held. is_live_in now held ≡ true) (peers_of torrent)) new.torrents
-        (each new.torrents (lively (record { limits = old.limits; sync = sync }) now it.forgotten.torrents new.torrents sound_kept sound_after it.freshens)));
-  }
-    where
-      each : (l : List Torrent) → AllByRecursion (λ (t : Torrent). AllByRecursion (λ held. is_live_in now held ≡ true) (peers_of t)) l → AllByRecursion (λ (t : Torrent). All (λ held. is_live_in now held ≡ true) (peers_of t)) l
-      each [] all = tt
-      each (t ∷ l) all = (All-from_recursion (λ held. is_live_in now held ≡ true) (peers_of t) all.0, each l all.1)
-
-  module _ (sync : Bool) (alone : sync ≡ false) (caller : ℕ) (minute : Minute) (later : now ≡ max minute.0 old.time) where
-    pub clean_stands : (held : ℕ) → held ≡ sum_by (λ torrent. length (peers_of torrent)) new.torrents → StandsOn caller minute Clean (Cleaned held) (bucket_of sync old) (bucket_of sync new)
-    clean_stands held counted =
-        stands_by now old it.forgotten new it.forgets it.stays sync alone caller minute later Clean (Cleaned held) tt
-        (clean_settles (record { limits = old.limits; sync = sync }) now it.forgotten.torrents new.torrents sound_kept sound_after it.freshens held counted)
-
-    pub scan_stands : (rows : List Row) → AreRowsOf new rows → StandsOn caller minute Scan (Rows rows) (bucket_of sync old) (bucket_of sync new)
-    scan_stands rows are =
-        stands_by now old it.forgotten new it.forgets it.stays sync alone caller minute later Scan (Rows rows) tt
-        (scan_settles (record { limits = old.limits; sync = sync }) now it.forgotten.torrents new.torrents sound_kept sound_after it.freshens rows
-        (let A : Table → Type 0 = λ t. AreRowsOf t rows in subst A (is_new now old it.forgotten new it.forgets it.stays) are))
-
-    pub scan_wants_stands : StandsOn caller minute Scan NoMemory (bucket_of sync old) (bucket_of sync new)
-    scan_wants_stands =
-        stands_by now old it.forgotten new it.forgets it.stays sync alone caller minute later Scan NoMemory tt
-        (scan_wants (record { limits = old.limits; sync = sync }) now it.forgotten.torrents new.torrents sound_kept sound_after it.freshens)
-
-    -- rows, or no memory for them
-    pub scanned_stands : {E : Type 0} (result : Result (List Row) E) → IfOk result (λ rows. AreRowsOf new rows) → StandsOn caller minute Scan (scanned result) (bucket_of sync old) (bucket_of sync new)
-    scanned_stands (Ok rows) are = scan_stands rows are
-    scanned_stands (Err error) none = scan_wants_stands
+  pub refuse_order : (box next : OutboxShape) → KeepsOrder (announce_of j want) (bucket_of box old) (bucket_of next new)
+  refuse_order box next before found known live stored =
+      let at : new.time ≡ now = it.stays.time ∙ it.forgets.time in
+      let K : ℕ → Type 0 = λ n. is_known_in n before ≡ true in
+      let L : ℕ → Type 0 = λ n. All (λ held. is_live_in n held ≡ true) (peers_of before) in
+      refused_order before (found_left now old it.forgotten it.forgets j.hash before found (subst K at known)) (subst L at live) (place_of j.hash it.forgotten.torrents) refl refused_by

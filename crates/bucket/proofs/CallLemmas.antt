@@ -1,5 +1,5 @@
 -- What the steps of a call leave, put together.
-use Rattle.std.proofs.Common.{◌≡◌, ℕ, true, false, List, [], ◌∷◌, ◌++◌, Option, Some, None, Result, Ok, Err, MatchResult, IfOk, refl, sym, ◌∙◌, ap, subst, length}
+use Rattle.std.proofs.Common.{◌≡◌, ℕ, zero, suc, Bool, true, false, if◌then◌else◌, List, [], ◌∷◌, Option, Some, None, Result, Ok, Err, IfOk, refl, sym, ◌∙◌, ap, subst, length}
 use Rattle.std.specs.List.{slice_get}
 use Rattle.std.specs.Option.{is_some, option_map_or, MatchOption}
 use Rattle.std.proofs.Math.ListN.{set}
@@ -12,14 +12,16 @@ use Rattle.ot_base.specs.declared.address.Family.TheVariants.{Four, Six}
 use Rattle.ot_base.specs.declared.hash.InfoHash.{InfoHash}
 use Rattle.ot_base.specs.declared.peer.Counts.{Counts}
 use Rattle.ot_base.specs.declared.peer.Held.{Held}
+use Rattle.ot_base.specs.declared.peer.Limits.{Limits}
 use Rattle.tracker_model.specs.Shape.{Torrent, torrent_of}
 use Rattle.swarm.specs.Peers.{choice_of}
 use Rattle.swarm.proofs.PlaceLemmas.{find_nowhere}
-use Rattle.bucket.specs.Calls.{Adds, Announces, Forgets, Joins, JoinsAt, Opens, Scrapes, Stays, Stops, found_counts, no_counts}
+use Rattle.bucket.specs.Calls.{Adds, Announces, Forgets, Joins, JoinsAt, Opens, Refused, RefusedAt, Refuses, Scrapes, Stays, Stops, found_counts, no_counts}
 use Rattle.bucket.specs.Table.{Table}
-use Rattle.bucket.specs.Torrents.{Freshens, Turns, new_torrent, of_family, place_of, tally, with_family, with_peer, without_peer}
+use Rattle.bucket.specs.Torrents.{Freshens, Turns, is_full_for, new_torrent, of_family, place_of, tally, with_family, with_peer, without_peer}
 use Rattle.bucket.specs.declared.joining.Joining.{Joining}
 use Rattle.bucket.specs.declared.joining.JoinError.{JoinError}
+use Rattle.bucket.specs.declared.joining.JoinError.TheVariants.{SwarmFull, NoMemory}
 use Rattle.bucket.proofs.KeptLemmas.{hash_joined}
 use Rattle.bucket.proofs.Looked.{first_at, place_push, places_kept}
 
@@ -82,6 +84,34 @@ announces minute j want words old forgotten new told counts place forgets stays 
       joins = joins_as (place_of j.hash forgotten.torrents) j forgotten new place counts joins;
       answers = subst P (at_place new.torrents j.hash place stands) (both C D (slice_get new.torrents place) counted chosen);
     }
+
+-- ---- an endpoint that is refused
+
+set_there : {X : Type 0} (xs : List X) (i : ℕ) (y x : X) → slice_get xs i ≡ Some y → slice_get (set xs i x) i ≡ Some x
+set_there [] i y x stood = absurd (let clash : None ≡ Some y = stood in cc)
+set_there (z ∷ zs) zero y x stood = refl
+set_there (z ∷ zs) (suc i) y x stood = set_there zs i y x stood
+
+pub refuses_some : (minute : ℕ) (h : InfoHash) (who : Endpoint) (old new : Table) (place : ℕ) (full : Bool) (error : JoinError) → Opens minute h old new (Some place) →
+    MatchOption (slice_get new.torrents place) ⊥ (λ torrent. full ≡ is_full_for new.limits.peers who torrent) → error ≡ (if full then SwarmFull else NoMemory) → Refuses minute h who old new error
+refuses_some minute h who old new place full error it is_full meets =
+    let kept = it.forgotten in
+    let turns = it.freshens in
+    let there : slice_get new.torrents place ≡ Some turns.after = ap (λ l. slice_get l place) turns.set ∙ set_there kept.torrents place turns.before turns.after turns.stood in
+    let at : place_of h kept.torrents ≡ Some place = sym (place_turned h kept.torrents new.torrents place (Freshens minute) (λ b a fresh. fresh.hash) turns) ∙ sym it.stands in
+    let P : Option Torrent → Type 0 = λ o. MatchOption o ⊥ (λ torrent. full ≡ is_full_for new.limits.peers who torrent) in
+    let says : full ≡ is_full_for new.limits.peers who turns.after = subst P there is_full in
+    let F : ℕ → Type 0 = λ n. Freshens n turns.before turns.after in
+    let R : Option ℕ → Type 0 = λ o. Refused o who kept new error in
+    let refused : RefusedAt place who kept new error = record {
+      before = turns.before;
+      torrent = turns.after;
+      stood = turns.stood;
+      freshens = subst F (sym it.forgets.time) turns.turned;
+      set = turns.set;
+      meets = meets ∙ ap (λ b. if b then SwarmFull else NoMemory) (says ∙ ap (λ (l : Limits). is_full_for l.peers who turns.after) it.stays.limits);
+    } in
+    record { forgotten = kept; forgets = it.forgets; stays = it.stays; refused = subst R (sym at) refused }
 
 -- ---- counts that are found
 

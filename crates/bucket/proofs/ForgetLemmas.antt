@@ -1,5 +1,5 @@
 -- The time moves on, and the torrents that aren't known any more go.
-use Rattle.std.proofs.Common.{◌≡◌, ℕ, ◌+◌, ◌-◌, ◌<◌, ◌≤◌, Bool, true, false, cond, nat_lt, List, ◌++◌, Option, Some, None, refl, sym, ◌∙◌, ap, subst, length, arith}
+use Rattle.std.proofs.Common.{◌≡◌, ℕ, ◌+◌, ◌≤◌, true, false, cond, List, Option, Some, None, refl, sym, ◌∙◌, ap, subst, length, arith}
 use Rattle.std.specs.List.{All}
 use Rattle.std.proofs.lemmas.Bool.Decides.{nat_tests}
 use Rattle.std.proofs.lemmas.List.Elements.{All-contains, All-weaker}
@@ -10,10 +10,10 @@ use Rattle.tracker_model.specs.Shape.{Torrent, is_known_in, torrent_of}
 use Rattle.tracker_model.specs.declared.limits.TheConstants.{TORRENT_MINUTES}
 use Rattle.tracker_model.proofs.Cases.{by_test}
 use Rattle.bucket.specs.Calls.{Forgets}
-use Rattle.bucket.specs.Changes.{Drops, DropsUnknown, KeepsClock}
+use Rattle.bucket.specs.Changes.{Drops, DropsUnknown}
 use Rattle.bucket.specs.Index.{IsIndexed}
 use Rattle.bucket.specs.Stored.{IsFit}
-use Rattle.bucket.specs.Table.{IsKept, IsSound, Table, torrents_by}
+use Rattle.bucket.specs.Table.{IsKept, Table, torrents_by}
 use Rattle.bucket.specs.Torrents.{if_known}
 use Rattle.bucket.specs.declared.stored.Stored.{Stored}
 use Rattle.bucket.proofs.DropLemmas.{all_left, fewer_left}

@@ -1,11 +1,11 @@
 -- An endpoint takes part in what is stored of a torrent, or is refused.
-use Rattle.std.proofs.Common.{◌≡◌, ℕ, ◌+◌, ◌-◌, ◌<◌, ◌≤◌, ◌⊎◌, inl, inr, Bool, true, false, not, ◌&&◌, cond, List, [], ◌∷◌, ◌++◌, Option, Some, None, Result, Ok, Err, IsErr, IsErrAnd, refl, sym, ◌∙◌, ap, subst, length, arith}
+use Rattle.std.proofs.Common.{◌≡◌, ℕ, ◌+◌, ◌<◌, ◌≤◌, ◌⊎◌, inl, inr, Bool, true, false, not, ◌&&◌, cond, List, [], ◌∷◌, ◌++◌, Option, Some, None, Result, Ok, Err, IsErr, IsErrAnd, refl, sym, ◌∙◌, ap, length, arith, nat_lt}
 use Rattle.std.specs.Bool.{◌==◌}
-use Rattle.std.specs.List.{find, slice_get, swap_remove}
+use Rattle.std.specs.List.{find, swap_remove}
 use Rattle.std.specs.Option.{is_none, is_some, option_map_or}
 use Rattle.std.proofs.Math.ListN.{set}
-use Rattle.std.proofs.lemmas.Bool.Decides.{Decides-eqb}
-use Rattle.std.proofs.lemmas.List.{length-append, length-set, length_push}
+use Rattle.std.proofs.lemmas.Bool.Decides.{Decides-eqb, nat_tests}
+use Rattle.std.proofs.lemmas.List.{length-set, length_push}
 use Rattle.ot_base.specs.Address.{family_of}
 use Rattle.ot_base.specs.declared.address.Endpoint.{Endpoint}
 use Rattle.ot_base.specs.declared.address.Family.{Family}
@@ -16,7 +16,7 @@ use Rattle.swarm.specs.Peers.{is_of, no_peer, place_of, put_peer, without_peer}
 use Rattle.swarm.specs.Shape.{Shape, of_family, peer_count, with_family}
 use Rattle.swarm.proofs.ListLemmas.{length-swap_remove}
 use Rattle.swarm.proofs.PlaceLemmas.{find_nowhere, find_placed}
-use Rattle.bucket.specs.Stored.{IsFit, IsTidySwarm, JoinsStored, PassesTo, empty_stored, put_stored}
+use Rattle.bucket.specs.Stored.{IsFit, IsTidySwarm, JoinsStored, PassesTo, put_stored}
 use Rattle.bucket.specs.declared.joining.JoinError.{JoinError}
 use Rattle.bucket.specs.declared.joining.JoinError.TheVariants.{SwarmFull, NoMemory}
 use Rattle.bucket.specs.declared.joining.Joining.{Joining}
@@ -96,7 +96,7 @@ take_fit limit minute who old swarm fit is tidy =
     }
 
 -- an endpoint is new where it has no place
-new_by : (who : Endpoint) (peers : List Held) → is_none (find (is_of who) peers) ≡ not (is_some (place_of who peers))
+pub new_by : (who : Endpoint) (peers : List Held) → is_none (find (is_of who) peers) ≡ not (is_some (place_of who peers))
 new_by who peers = by_place who peers (place_of who peers) refl
   where
     by_place : (who : Endpoint) (peers : List Held) (o : Option ℕ) → place_of who peers ≡ o → is_none (find (is_of who) peers) ≡ not (is_some (place_of who peers))
@@ -109,19 +109,29 @@ not_equal n m less =
     (λ yes. let e : n ≡ m = (Decides-eqb n m).0 yes in absurd (omega arith))
     (λ no. no)
 
-pub refused_full : {A : Type 0} (limit minute : ℕ) (joining : Joining) (old fresh : Stored) → PassesTo minute old fresh → is_some (place_of joining.who (peers_for joining.who fresh.swarm)) ≡ false → peer_count fresh.swarm ≡ limit
-    → JoinsStored {A = A} limit minute joining old fresh (Err SwarmFull)
-refused_full limit minute joining old fresh passes unknown full =
-    let peers = peers_for joining.who fresh.swarm in
-    record {
-      fresh = fresh;
-      passes = passes;
-      joins = (
-        new_by joining.who peers ∙ ap not unknown,
-        refl,
-        sym (ap (λ b. cond b SwarmFull NoMemory) ((Decides-eqb (peer_count fresh.swarm) limit).1 full)),
-      );
-    }
+-- whether an endpoint isn't held, and there are as many as there may be
+abbrev pub meets_full : ℕ → Endpoint → Shape → Bool
+meets_full limit who swarm = is_none (find (is_of who) (peers_for who swarm)) && (peer_count swarm == limit)
+
+both_first : (a b : Bool) → (a && b) ≡ true → (a ≡ true) × (b ≡ true)
+both_first true b both = (refl, both)
+both_first false b both = absurd (let clash : false ≡ true = both in cc)
+
+pub refused_full : {A : Type 0} (limit minute : ℕ) (joining : Joining) (old fresh : Stored) → PassesTo minute old fresh → (full : Bool) → full ≡ meets_full limit joining.who fresh.swarm → full ≡ true → JoinsStored {A = A} limit minute joining old fresh (Err SwarmFull)
+refused_full limit minute joining old fresh passes full is met =
+    let both = both_first (is_none (find (is_of joining.who) (peers_for joining.who fresh.swarm))) (peer_count fresh.swarm == limit) (sym is ∙ met) in
+    record { fresh = fresh; passes = passes; joins = (both.0, refl, sym (ap (λ b. cond b SwarmFull NoMemory) both.1)) }
+
+pub room_where : (limit : ℕ) (who : Endpoint) (swarm : Shape) (full : Bool) → full ≡ meets_full limit who swarm → full ≡ false → peer_count swarm ≤ limit → HasRoom limit who swarm
+room_where limit who swarm full is free few =
+    let peers = peers_for who swarm in
+    by_test (is_some (place_of who peers)) (HasRoom limit who swarm)
+    (λ held. inl held)
+    (λ unknown.
+    let room : (peer_count swarm == limit) ≡ false = ap (λ b. b && (peer_count swarm == limit)) (sym (new_by who peers ∙ ap not unknown)) ∙ sym is ∙ free in
+    by_test (nat_lt (peer_count swarm) limit) (HasRoom limit who swarm)
+    (λ less. inr (grind (arith, nat_tests)))
+    (λ most. let same : peer_count swarm ≡ limit = grind (arith, nat_tests) in absurd (let clash : true ≡ false = sym ((Decides-eqb (peer_count swarm) limit).1 same) ∙ room in cc)))
 
 pub refused_memory : {A : Type 0} (limit minute : ℕ) (joining : Joining) (old fresh new : Stored) → PassesTo minute old fresh → HasRoom limit joining.who fresh.swarm → place_of joining.who (peers_for joining.who fresh.swarm) ≡ None → new ≡ fresh
     → JoinsStored {A = A} limit minute joining old new (Err NoMemory)

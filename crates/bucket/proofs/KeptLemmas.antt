@@ -1,6 +1,6 @@
 -- What forgetting, dropping stale peers, taking part and leaving make of what is live and known.
 use Rattle.std.proofs.Common.{◌≡◌, ℕ, ◌-◌, ◌≤◌, true, false, not, ◌&&◌, List, [], ◌∷◌, Option, Some, None, refl, sym, ◌∙◌, ap, subst, arith, nat_lt, cond, if◌then◌else◌}
-use Rattle.std.specs.List.{All, AllByRecursion, AllZip, slice_get}
+use Rattle.std.specs.List.{AllByRecursion, AllZip, slice_get}
 use Rattle.std.specs.Option.{is_some, option_map, option_map_or}
 use Rattle.std.proofs.Math.ListN.{set}
 use Rattle.std.proofs.lemmas.List.Elements.{All-from_recursion}
@@ -12,7 +12,7 @@ use Rattle.ot_base.specs.declared.address.Endpoint.{Endpoint}
 use Rattle.ot_base.specs.declared.address.Family.{Family}
 use Rattle.ot_base.specs.declared.address.Family.TheVariants.{Four, Six}
 use Rattle.ot_base.specs.declared.peer.Held.{Held}
-use Rattle.tracker_model.specs.Known.{Standing, if_known, is_recent, is_known, is_seed, known, touch_of, downloaded_of}
+use Rattle.tracker_model.specs.Known.{Standing, if_known, is_known, is_seed, known, touch_of, downloaded_of}
 use Rattle.tracker_model.specs.Live.{if_live, live}
 use Rattle.tracker_model.specs.Shape.{Torrent, peers_of, held_of, torrent_of, live_in, known_in, is_known_in, downloads_in}
 use Rattle.tracker_model.specs.Stands.{AreTidy, IsTidy, Keeps}

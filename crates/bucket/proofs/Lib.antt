@@ -1,4 +1,5 @@
 mod Asking
+mod AskLaws
 mod CallLaws
 mod CallLemmas
 mod Families

@@ -1,14 +1,12 @@
 -- An endpoint that takes part again stays at its place, where no peer has gone.
-use Rattle.std.proofs.Common.{◌≡◌, ℕ, zero, suc, ◌<◌, Bool, true, false, List, [], ◌∷◌, ◌++◌, Option, Some, None, refl, sym, ◌∙◌, ap, subst, arith, length, map, get_or}
-use Rattle.std.specs.List.{All, AllByRecursion}
+use Rattle.std.proofs.Common.{◌≡◌, ℕ, true, false, List, [], ◌∷◌, ◌++◌, Option, Some, None, refl, sym, ◌∙◌, ap, length, get_or}
+use Rattle.std.specs.List.{All}
 use Rattle.std.specs.Option.{is_some, option_map_or}
 use Rattle.std.proofs.Math.ListN.{set}
 use Rattle.std.proofs.Math.Seq.{map-set_same}
 use Rattle.std.proofs.lemmas.List.Quantifiers.{position-Some}
 use Rattle.ot_base.specs.Address.{family_of}
-use Rattle.ot_base.specs.Same.{same_endpoint}
 use Rattle.ot_base.proofs.SameLemmas.{same_endpoint_decides}
-use Rattle.ot_base.specs.declared.address.Endpoint.{Endpoint}
 use Rattle.ot_base.specs.declared.address.Family.{Family}
 use Rattle.ot_base.specs.declared.address.Family.TheVariants.{Four, Six}
 use Rattle.ot_base.specs.declared.peer.Held.{Held}

@@ -1,5 +1,5 @@
 -- An endpoint takes part in a stored torrent, or in a new one.
-use Rattle.std.proofs.Common.{◌≡◌, ℕ, ◌+◌, ◌-◌, ◌<◌, ◌≤◌, Bool, true, false, not, ◌&&◌, cond, List, [], ◌∷◌, ◌++◌, Option, Some, None, Result, Ok, Err, IsErr, IsErrAnd, refl, sym, ◌∙◌, ap, subst, length, arith, get_or}
+use Rattle.std.proofs.Common.{◌≡◌, ℕ, ◌+◌, ◌<◌, false, not, ◌&&◌, cond, List, [], ◌∷◌, ◌++◌, Option, Result, Ok, Err, IsErr, IsErrAnd, refl, sym, ◌∙◌, ap, subst, length, arith, get_or}
 use Rattle.std.specs.Bool.{◌==◌}
 use Rattle.std.specs.List.{All, find}
 use Rattle.std.specs.Option.{is_none}
@@ -11,14 +11,13 @@ use Rattle.std.proofs.lemmas.List.Elements.{All-push, All-set}
 use Rattle.std.proofs.lemmas.Option.{get_or_from_slice_get}
 use Rattle.age_ring.specs.Ring.{IsYoung, Ring, items_of}
 use Rattle.ot_base.specs.Address.{family_of}
-use Rattle.ot_base.specs.declared.address.Endpoint.{Endpoint}
 use Rattle.ot_base.specs.declared.address.Family.{Family}
 use Rattle.ot_base.specs.declared.address.Family.TheVariants.{Four, Six}
 use Rattle.ot_base.specs.declared.hash.InfoHash.{InfoHash}
 use Rattle.ot_base.specs.declared.peer.Held.{Held}
 use Rattle.ot_base.specs.declared.peer.Limits.{Limits}
 use Rattle.tracker_model.specs.Known.{is_seed}
-use Rattle.tracker_model.specs.Shape.{Torrent, held_of, peers_of}
+use Rattle.tracker_model.specs.Shape.{Torrent, held_of}
 use Rattle.tracker_model.specs.Steps.{one_more}
 use Rattle.tracker_model.specs.declared.limits.TheConstants.{TORRENT_MINUTES}
 use Rattle.swarm.specs.Peers.{is_of, put_peer}

@@ -1,5 +1,5 @@
 -- The rows of the index's entries, in their order.
-use Rattle.std.proofs.Common.{◌≡◌, ℕ, ◌+◌, ◌<◌, Bool, true, false, ◌||◌, cond, List, [], ◌∷◌, ◌++◌, Option, Some, None, Ordering, refl, sym, ◌∙◌, ap, subst, length, map, arith}
+use Rattle.std.proofs.Common.{◌≡◌, ℕ, ◌+◌, Bool, true, false, ◌||◌, cond, List, [], ◌∷◌, ◌++◌, Option, Some, None, Ordering, refl, sym, ◌∙◌, ap, subst, length, map}
 use Rattle.std.specs.BTreeMap as tree
 use Rattle.std.specs.List.{AllByRecursion, AllZip, slice_get, sum_by}
 use Rattle.std.specs.List.Sorted.{IsStrictlySortedBy}
@@ -23,10 +23,10 @@ use Rattle.swarm.proofs.PlaceLemmas.{find_nowhere, find_placed}
 use Rattle.bucket.specs.Calls.{AreRowsOf, HasTorrent}
 use Rattle.bucket.specs.Index.{IsIndexed}
 use Rattle.bucket.specs.Stored.{torrent_by}
-use Rattle.bucket.specs.Table.{Table, torrents_by}
+use Rattle.bucket.specs.Table.{torrents_by}
 use Rattle.bucket.specs.Torrents.{new_torrent, place_of, tally}
 use Rattle.bucket.specs.declared.stored.Stored.{Stored}
-use Rattle.bucket.proofs.FoundLemmas.{found_at, hashes_of, is_of, place_indexed}
+use Rattle.bucket.proofs.FoundLemmas.{found_at, is_of, place_indexed}
 use Rattle.bucket.proofs.PlaceLemmas.{stands_at, tally_by}
 use Rattle.bucket.proofs.SoundLemmas.{table_by}
 use Rattle.bucket.proofs.TableLemmas.{hashes_by}

@@ -1,5 +1,5 @@
 -- A shelf: where a torrent's bucket is, what a call on a bucket makes of it, and a new one.
-use Rattle.std.proofs.Common.{◌≡◌, ℕ, ◌+◌, ◌-◌, ◌*◌, ◌^◌, ◌<◌, ◌≤◌, false, List, [], ◌∷◌, ◌++◌, refl, sym, ◌∙◌, ap, subst, arith, length, length-append, get_or, set, take, replicate}
+use Rattle.std.proofs.Common.{◌≡◌, ℕ, ◌+◌, ◌-◌, ◌*◌, ◌^◌, ◌<◌, ◌≤◌, List, [], ◌∷◌, ◌++◌, refl, sym, ◌∙◌, ap, subst, arith, length, length-append, get_or, set, take, replicate}
 use Rattle.std.specs.List.{All, AllByRecursion, AllZip}
 use Rattle.std.specs.Int.{w16, from_be_bytes}
 use Rattle.std.proofs.Math.Nat.{div-lt_iff_lt-mul}
@@ -47,10 +47,6 @@ module _ (bits : ℕ) (g : Settings) (buckets : List Shape) (old : ShelfShape) (
         ap (λ b. b.settings) at
         ∙ All-get_or (λ b. b.settings ≡ g) buckets i before within_buckets whole.same
         ∙ ap (λ s. s.settings) is
-
-    -- a bucket of a shelf whose sync is off has it off too
-    pub alone_in : old.settings.sync ≡ false → before.settings.sync ≡ false
-    alone_in alone = ap (λ s. s.sync) same_settings ∙ alone
 
     -- what the bucket promises of a call is what the shelf promises
     pub made_in : (minute : Minute) (call : Call) (answer : Answer) (after : Shape) → after.settings ≡ before.settings →

@@ -1,5 +1,5 @@
 -- What keeps a table makes it sound.
-use Rattle.std.proofs.Common.{◌≡◌, ℕ, ◌+◌, ◌-◌, ◌<◌, ◌≤◌, Bool, true, false, ◌&&◌, nat_lt, List, [], ◌∷◌, ◌++◌, Option, refl, sym, ◌∙◌, ap, subst, length, map, arith}
+use Rattle.std.proofs.Common.{◌≡◌, ℕ, ◌+◌, ◌-◌, ◌<◌, ◌≤◌, true, false, ◌&&◌, nat_lt, List, [], ◌∷◌, ◌++◌, Option, refl, sym, ◌∙◌, ap, subst, length, map, arith}
 use Rattle.std.specs.List.{All, AllByRecursion, IsDistinct}
 use Rattle.std.proofs.lemmas.Bool.Decides.{nat_tests}
 use Rattle.std.proofs.lemmas.List.{length-append}
@@ -15,11 +15,10 @@ use Rattle.ot_base.specs.declared.peer.Held.{Held}
 use Rattle.ot_base.specs.declared.peer.Limits.{Limits}
 use Rattle.age_ring.specs.Ring.{IsYoung, Ring, items_of}
 use Rattle.tracker_model.specs.Shape.{Torrent, is_known_in, peers_of}
-use Rattle.tracker_model.specs.Stands.{AreTidy, IsTidy, are_of}
+use Rattle.tracker_model.specs.Stands.{IsTidy, are_of}
 use Rattle.tracker_model.specs.declared.limits.TheConstants.{TORRENT_MINUTES}
 use Rattle.tracker_model.proofs.Cases.{by_test}
 use Rattle.swarm.specs.Peers.{endpoints_of}
-use Rattle.bucket.specs.Index.{IsIndexed}
 use Rattle.bucket.specs.Stored.{IsFit, IsTidySwarm, torrent_by}
 use Rattle.bucket.specs.Table.{IsKept, IsSound, Table, torrents_by}
 use Rattle.bucket.specs.declared.stored.Stored.{Stored}

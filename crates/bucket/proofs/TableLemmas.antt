@@ -1,22 +1,16 @@
 -- The torrents of a ring's pairs and of what is stored beside them, after each kind of change.
-use Rattle.std.proofs.Common.{◌≡◌, ◌≢◌, ℕ, zero, suc, ◌+◌, ◌-◌, ◌<◌, ◌≤◌, Bool, true, false, List, [], ◌∷◌, ◌++◌, Option, Some, None, refl, sym, ◌∙◌, ap, subst, length, map, take, arith, get_or}
+use Rattle.std.proofs.Common.{◌≡◌, ℕ, zero, suc, ◌-◌, ◌<◌, List, [], ◌∷◌, ◌++◌, Some, refl, sym, ◌∙◌, ap, length, map, take, arith, get_or}
 use Rattle.std.specs.List.{slice_get, sum_by, swap_remove}
-use Rattle.std.specs.Option.{option_map}
 use Rattle.std.proofs.Math.ListN.{set}
 use Rattle.std.proofs.lemmas.List.{length-append}
 use Rattle.std.proofs.lemmas.List.Sums.{sum_by-cons}
-use Rattle.std.proofs.lemmas.List.Quantifiers.{position-Some}
-use Rattle.std.proofs.lemmas.Option.{slice_get-map, slice_get_within, slice_get-get_or, get_or_from_slice_get, none-some, same_Some}
-use Rattle.ot_base.specs.Same.{same_hash}
-use Rattle.ot_base.proofs.SameLemmas.{same_hash_decides}
+use Rattle.std.proofs.lemmas.Option.{none-some, same_Some}
 use Rattle.ot_base.specs.declared.hash.InfoHash.{InfoHash}
 use Rattle.age_ring.specs.Ring.{items_of}
 use Rattle.tracker_model.specs.Shape.{Torrent, peers_of}
 use Rattle.swarm.specs.Shape.{peer_count}
-use Rattle.bucket.specs.Index.{IsIndexed}
 use Rattle.bucket.specs.Stored.{torrent_by}
 use Rattle.bucket.specs.Table.{torrents_by, pairs_of}
-use Rattle.bucket.specs.Torrents.{place_of}
 use Rattle.bucket.specs.declared.stored.Stored.{Stored}
 
 -- as many torrents as pairs

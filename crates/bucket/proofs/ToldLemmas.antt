@@ -3,12 +3,12 @@
 use Rattle.std.proofs.Common.{◌≡◌, ℕ, ◌+◌, ◌-◌, ◌<◌, ◌≤◌, min, Bool, true, false, not, ◌&&◌, ◌||◌, List, [], ◌∷◌, ◌++◌, Option, Some, None, inl, inr, refl, sym, ◌∙◌, ap, subst, arith, length, map, cond, nat_eq, nat_lt, get_or, if◌then◌else◌}
 use Rattle.std.proofs.lemmas.Bool.{cases_lt}
 use Rattle.std.proofs.lemmas.List.{append-nil, length-map, get_or-map}
-use Rattle.std.proofs.lemmas.List.Elements.{All-append, All-map, All-weaker, All-from_recursion, recursion_from_All, filter-append}
+use Rattle.std.proofs.lemmas.List.Elements.{All-map, All-weaker, All-from_recursion, filter-append}
 use Rattle.std.proofs.lemmas.List.Sums.{sum_by-cons, list_all-from_AllPass}
 use Rattle.std.proofs.lemmas.Map.Keys.{apart_from_distinct, IsDistinct-from_apart}
 use Rattle.std.proofs.lemmas.Map.Made.{distinct_count-from_IsDistinct}
-use Rattle.std.specs.List.{All, AllByRecursion, IsDistinct, filter, list_all, sum_by}
-use Rattle.std.specs.Option.{is_some, option_map_or}
+use Rattle.std.specs.List.{All, AllByRecursion, IsDistinct, filter, sum_by}
+use Rattle.std.specs.Option.{option_map_or}
 use Rattle.std.specs.Set.{is_member}
 use Rattle.ot_base.specs.Address.{family_of, no_endpoint}
 use Rattle.ot_base.specs.Same.{same_endpoint, same_family}
@@ -23,14 +23,14 @@ use Rattle.tracker_model.specs.Counted.{is_leecher, may_be_told}
 use Rattle.tracker_model.specs.Judged.{IsDrawn}
 use Rattle.tracker_model.specs.Known.{is_seed}
 use Rattle.tracker_model.specs.Live.{if_live}
-use Rattle.tracker_model.specs.Shape.{Torrent, peers_of, held_of, torrent_of, stored_peers, live_in, known_in, count_in, counts_in, is_known_in, is_live_in, downloads_in}
-use Rattle.tracker_model.specs.Stands.{are_of, IsTidy}
+use Rattle.tracker_model.specs.Shape.{Torrent, peers_of, held_of, torrent_of, stored_peers, live_in, counts_in, is_known_in, is_live_in, downloads_in}
+use Rattle.tracker_model.specs.Stands.{IsTidy}
 use Rattle.tracker_model.specs.declared.limits.TheConstants.{PEER_MINUTES}
-use Rattle.tracker_model.proofs.Cases.{by_test, both_first}
+use Rattle.tracker_model.proofs.Cases.{by_test}
 use Rattle.tracker_model.proofs.KeyedLemmas.{keys_apart, is_member-passing}
 use Rattle.pick.specs.Picks.{picks}
 use Rattle.pick.proofs.PickLemmas.{picks_apart}
-use Rattle.swarm.specs.Peers.{choice_of, endpoints_of, one_if, other_one, others, seed_one}
+use Rattle.swarm.specs.Peers.{choice_of, endpoints_of, other_one, others, seed_one}
 use Rattle.bucket.specs.Torrents.{of_family, tally}
 use Rattle.bucket.specs.Calls.{no_counts}
 use Rattle.bucket.proofs.Families.{Distinct, all-are_of, in_families, of_its_family, same_itself}

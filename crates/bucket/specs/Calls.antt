@@ -1,5 +1,5 @@
 -- What the calls do to the torrents of a bucket.
-use Rattle.std.specs.Prelude.{◌≡◌, ℕ, Bool, false, true, map, ◌&&◌, ◌==◌, List, ◌∷◌, [], ◌++◌, Option, None, Some, Result, Ok, Err, MatchOption, MatchResult, length, is_none, slice_get, slice_set, if◌then◌else◌}
+use Rattle.std.specs.Prelude.{◌≡◌, ℕ, Bool, false, true, map, ◌&&◌, ◌==◌, List, ◌∷◌, [], ◌++◌, Option, None, Some, Result, MatchOption, MatchResult, length, is_none, slice_get, slice_set, if◌then◌else◌}
 use Rattle.std.specs.List.{AllByRecursion, AllZip}
 use Rattle.std.specs.List.Sorted.{IsStrictlySortedBy}
 use Rattle.std.specs.Option.{is_some, option_map_or}
@@ -10,14 +10,23 @@ use Rattle.ot_base.specs.Same.{same_hash}
 use Rattle.ot_base.specs.declared.address.Endpoint.{Endpoint}
 use Rattle.ot_base.specs.declared.hash.InfoHash.{InfoHash}
 use Rattle.ot_base.specs.declared.peer.Counts.{Counts}
+use Rattle.ot_base.specs.declared.peer.Mark.{Mark}
+use Rattle.ot_base.specs.declared.peer.Mark.TheVariants.{Leecher, Seed, Stopped}
 use Rattle.ot_base.specs.declared.peer.Row.{Row}
 use Rattle.tracker_model.specs.Shape.{Torrent, peers_of, held_of, torrent_of}
+use Rattle.tracker_model.specs.declared.call.Call.{Call}
+use Rattle.tracker_model.specs.declared.call.Call.TheVariants.{Announce}
 use Rattle.swarm.specs.Peers.{choice_of}
 use Rattle.bucket.specs.Table.{Table, IsSound}
-use Rattle.bucket.specs.Torrents.{Freshens, Turns, if_known, new_torrent, of_family, place_of, tally, with_peer, without_peer}
+use Rattle.bucket.specs.Torrents.{Freshens, Turns, if_known, is_full_for, new_torrent, of_family, place_of, tally, with_peer, without_peer}
 use Rattle.bucket.specs.declared.joining.Joining.{Joining}
 use Rattle.bucket.specs.declared.joining.JoinError.{JoinError}
 use Rattle.bucket.specs.declared.joining.JoinError.TheVariants.{SwarmFull, BucketFull, NoMemory}
+
+-- the announce by which an endpoint takes part
+abbrev pub announce_of : Joining → ℕ → Call
+announce_of joining want =
+    Announce joining.hash joining.who joining.seed joining.completed want
 
 -- limits and time stay
 pub record Stays (old new : Table) : Type 0 where
@@ -95,6 +104,40 @@ pub record Announces (minute : ℕ) (joining : Joining) (want : ℕ) (words : Li
       (of_family (family_of joining.who.addr) torrent))))
       (λ error. Unit {0})
 
+-- an endpoint takes part or is refused, and is told nothing
+pub record TakesPart {A : Type 0} (minute : ℕ) (joining : Joining) (old new : Table)
+    (result : Result A JoinError) : Type 0 where
+  pub forgotten : Table
+  pub forgets : Forgets minute old forgotten
+  pub stays : Stays forgotten new
+  pub joins : Joins (place_of joining.hash forgotten.torrents) joining forgotten new result
+
+-- one that would take part in the torrent at a place is refused: the torrent has as many peers as
+-- it may have, or memory is wanted. Its stale peers have gone, and nothing else changes
+pub record RefusedAt (place : ℕ) (who : Endpoint) (old new : Table) (error : JoinError)
+    : Type 0 where
+  pub before : Torrent
+  pub torrent : Torrent
+  pub stood : slice_get old.torrents place ≡ Some before
+  pub freshens : Freshens old.time before torrent
+  pub set : new.torrents ≡ slice_set old.torrents place torrent
+  pub meets : error ≡ (if is_full_for old.limits.peers who torrent then SwarmFull else NoMemory)
+
+-- the same in the torrent that stands at a place, or in a new one, where nothing changes
+abbrev pub Refused : Option ℕ → Endpoint → (old new : Table) → JoinError → Type 0
+Refused None who old new error =
+    (new ≡ old)
+    × (error ≡ (if length old.torrents == old.limits.torrents then BucketFull else NoMemory))
+Refused (Some place) who old new error = RefusedAt place who old new error
+
+-- there is no memory for an announce's note: it is answered what is full, or want of memory
+pub record Refuses (minute : ℕ) (hash : InfoHash) (who : Endpoint) (old new : Table)
+    (error : JoinError) : Type 0 where
+  pub forgotten : Table
+  pub forgets : Forgets minute old forgotten
+  pub stays : Stays forgotten new
+  pub refused : Refused (place_of hash forgotten.torrents) who forgotten new error
+
 -- the counts of a torrent that isn't known
 abbrev pub no_counts : Counts
 no_counts = record { complete = 0; downloaded = 0; incomplete = 0 }
@@ -114,6 +157,22 @@ pub record Stops (minute : ℕ) (hash : InfoHash) (who : Endpoint) (old new : Ta
       (λ i. Turns i (λ before after. after ≡ without_peer who before)
       opened.torrents new.torrents)
   pub counted : counts ≡ found_counts new hash
+
+-- an endpoint that takes part, as another node says
+abbrev pub joining_by : InfoHash → Endpoint → Bool → Joining
+joining_by hash who seed = record { hash = hash; who = who; seed = seed; completed = false }
+
+-- another node's note: the endpoint takes part, as by an announce that completes no download, or it
+-- leaves its torrent, as by a stop
+abbrev pub Applies : {A : Type 0} → ℕ → InfoHash → Endpoint → Mark → (old new : Table) →
+    Result A JoinError → Type 0
+Applies minute hash who Leecher old new result =
+    TakesPart minute (joining_by hash who false) old new result
+Applies minute hash who Seed old new result =
+    TakesPart minute (joining_by hash who true) old new result
+Applies minute hash who Stopped old new result =
+    (counts : Counts) × Stops minute hash who old new counts
+    × MatchResult result (λ done. Unit {0}) (λ error. ⊥)
 
 -- a scrape: the counts of a torrent, and whether it is known
 pub record Scrapes (minute : ℕ) (hash : InfoHash) (old new : Table) (counts : Counts)

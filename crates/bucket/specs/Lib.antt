@@ -2,6 +2,7 @@ pub mod Answers
 pub mod Calls
 pub mod Changes
 pub mod Index
+pub mod Outbox
 pub mod Public
 pub mod Shelf
 pub mod Stored

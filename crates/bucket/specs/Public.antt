@@ -1,23 +1,13 @@
 -- What the public calls of a bucket promise beside the history.
-use Rattle.std.specs.Prelude.{◌≡◌, ℕ, Bool, true, false, List, Option, Some, None, All, MatchOption, is_some}
+use Rattle.std.specs.Prelude.{◌≡◌, ℕ, true, List, Some, All, MatchOption, is_some}
 use Rattle.ot_base.specs.Address.{family_of}
 use Rattle.tracker_model.specs.Shape.{Shape, Torrent, peers_of, held_of, torrent_of, is_known_in, is_live_in}
 use Rattle.tracker_model.specs.declared.answer.Answer.{Answer}
 use Rattle.tracker_model.specs.declared.answer.Answer.TheVariants.{Told}
 use Rattle.tracker_model.specs.declared.call.Call.{Call}
-use Rattle.tracker_model.specs.declared.call.Call.TheVariants.{Announce, Stop, Scrape, Scan, Clean, Sync, Drain}
+use Rattle.tracker_model.specs.declared.call.Call.TheVariants.{Announce, Clean}
 use Rattle.swarm.specs.Peers.{choice_of, endpoints_of}
 use Rattle.bucket.specs.Torrents.{of_family}
-
--- whether a call is one of those that a tracker alone makes: no sync and no drain
-abbrev pub is_own : Call → Bool
-is_own (Announce h who seed completed want) = true
-is_own (Stop h who) = true
-is_own (Scrape h) = true
-is_own Scan = true
-is_own Clean = true
-is_own (Sync h who mark) = false
-is_own Drain = false
 
 -- the peers that an announce is told are those that the words choose, in the order that its torrent
 -- and family have after the call

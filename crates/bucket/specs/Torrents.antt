@@ -1,6 +1,5 @@
 -- Stored torrents, one by one.
-use Rattle.std.specs.Prelude.{◌≡◌, ℕ, ◌≤◌, true, not, ◌&&◌, List, [], ◌∷◌, ◌++◌, Option, Some, None, All, if◌then◌else◌, length, position, slice_get, slice_set, sum_by}
-use Rattle.std.specs.List.{AllByRecursion}
+use Rattle.std.specs.Prelude.{◌≡◌, ℕ, ◌≤◌, true, not, ◌&&◌, ◌==◌, Bool, List, [], Option, Some, None, All, if◌then◌else◌, is_none, length, position, slice_get, slice_set, sum_by}
 use Rattle.ot_base.specs.Address.{family_of}
 use Rattle.ot_base.specs.Same.{same_hash}
 use Rattle.ot_base.specs.declared.address.Endpoint.{Endpoint}
@@ -95,3 +94,9 @@ tally torrent = record {
 pub record AreWithin (limits : Limits) (torrents : List Torrent) : Type 0 where
   pub few : length torrents ≤ limits.torrents
   pub each : All (λ torrent. length (peers_of torrent) ≤ limits.peers) torrents
+
+-- whether an endpoint isn't one of a torrent's peers, and these are as many as there may be
+abbrev pub is_full_for : ℕ → Endpoint → Torrent → Bool
+is_full_for limit who torrent =
+    is_none (held_of (of_family (family_of who.addr) torrent) who)
+    && (length (peers_of torrent) == limit)

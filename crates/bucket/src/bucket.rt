@@ -1,24 +1,27 @@
 //! A bucket.
 
-ghost use Rattle.std.specs.Prelude.{◌≡◌, ◌≤◌, [], ◌∷◌, ◌++◌, IfOk, true, false, List, length, max, sum_by};
-ghost use Rattle.tracker_model.specs.Calls.{IsWellFormed};
+ghost use Rattle.std.specs.Prelude.{◌≡◌, ◌≤◌, [], ◌∷◌, ◌++◌, IfOk, ℕ, List, length, max, sum_by};
+ghost use Rattle.tracker_model.specs.Calls.{IsPeer, IsWellFormed};
 ghost use Rattle.tracker_model.specs.Kinds.{IsKindOf};
 ghost use Rattle.tracker_model.specs.Making.{scanned};
 ghost use Rattle.tracker_model.specs.Settings.{AreLimits};
 ghost use Rattle.tracker_model.specs.Shape.{peers_of};
 ghost use Rattle.tracker_model.specs.Stands.{StandsFor};
-ghost use Rattle.tracker_model.specs.declared.answer.Answer.TheVariants.{Cleaned, Stats};
-ghost use Rattle.tracker_model.specs.declared.call.Call.TheVariants.{Clean, Scan, Scrape};
+ghost use Rattle.tracker_model.specs.declared.answer.Answer.TheVariants.{Cleaned, Drained, Stats};
+ghost use Rattle.tracker_model.specs.declared.call.Call.TheVariants.{Clean, Drain, Scan, Scrape, Stop, Sync};
 ghost use Rattle.tracker_model.specs.declared.entry.Entry.{Entry};
 ghost use Rattle.tracker_model.specs.declared.limits.TheConstants.{TORRENT_MINUTES};
-ghost use Rattle.bucket.specs.Public.{IsChosen, IsCleaned, IsFresh, KeepsOrder, is_own};
+ghost use Rattle.bucket.specs.Answers.{announced, applied, stopped};
+ghost use Rattle.bucket.specs.Calls.{announce_of};
+ghost use Rattle.bucket.specs.Public.{IsChosen, IsCleaned, IsFresh, KeepsOrder};
 ghost use Rattle.bucket.specs.Table.{pairs_of};
 
-use crate::calls::{announce, clean, scrape, stop};
-use crate::joining::Joining;
+use crate::calls::{announce, apply, clean, pass, refuse, scrape, stop};
+use crate::joining::{JoinError, Joining};
+use crate::outbox::{Outbox, mark_of};
 use crate::torrents::Torrents;
 use age_ring::AgeRing;
-use ot_base::{Counts, InfoHash, Limits, Minute, Peers, Rows};
+use ot_base::{Counts, Endpoint, InfoHash, Limits, Mark, Minute, Notes, Peers, Rows};
 use std::alloc::{AllocError, Global};
 use std::marker::{Brand, Model};
 use std::sync::ledger::Blank;
@@ -27,22 +30,21 @@ use tracker_model::{Answer, Call, Stands};
 /// One bucket of a tracker: the torrents of a part of all hashes, with their peers.
 #[derive(Drop)]
 pub struct Bucket {
-    sync: bool,
     torrents: Torrents,
+    outbox: Outbox,
 }
 
 impl Model for Bucket {
-    ghost use Rattle.std.specs.Prelude.{[]};
     ghost use Rattle.tracker_model.specs.Shape.{Shape};
 
     ghost Value = { Shape };
 
     ghost view = { λ b. record {
-      settings = record { limits = b.torrents.limits; sync = b.sync };
+      settings = record { limits = b.torrents.limits; sync = b.outbox.sync };
       time = b.torrents.time;
       torrents = b.torrents.torrents;
-      notes = [];
-      dropped = 0;
+      notes = b.outbox.notes;
+      dropped = b.outbox.dropped;
     } };
 }
 
@@ -67,24 +69,23 @@ impl Bucket {
         ensures empty { IfOk result (λ bucket. bucket.torrents ≡ []) }
     {
         Ok(Bucket {
-            sync,
             torrents: Torrents::new(alloc, limits)?,
+            outbox: Outbox::new(alloc, sync),
         })
     }
 
-    /// Answers an announce, a stop, a scrape, a scan or a cleaning. A caller is only named by its
-    /// number. For every history that the bucket stood for, it stands afterwards for that history
-    /// with this entry, so the answer is right after it. An announce is told the peers that `words`
-    /// choose, in the order that its torrent and family have then: an announce by one of the peers
-    /// leaves that order where all of them are live. After a cleaning all that is stored is live
-    /// and known. A stop, a scrape and a cleaning want no memory.
+    /// Answers a call. A caller is only named by its number. For every history that the bucket
+    /// stood for, it stands afterwards for that history with this entry, so the answer is right
+    /// after it. An announce is told the peers that `words` choose, in the order that its torrent
+    /// and family have then: an announce by one of the peers leaves that order where all of them
+    /// are live. After a cleaning all that is stored is live and known. A scrape, a cleaning, a
+    /// drain and a sync that is a stop or names a live peer want no memory; nor do, where sync is
+    /// off, a stop and an announce of a live peer.
     ///
     /// Only a scan and a cleaning look at all torrents. What the others cost doesn't grow with what
     /// is stored, but for look-ups by hash and by endpoint, and for what ages out just then.
     pub fn call(&mut self, caller: u32, minute: Minute, call: Call, words: &[u32; 200]) -> Answer
         requires formed { IsWellFormed call }
-        requires alone { self.old.settings.sync ≡ false }
-        requires answerable { is_own call ≡ true }
         ensures settings { self.new.settings ≡ self.old.settings }
         ensures kind { IsKindOf self.old.settings call result }
         ensures stands { (history : List Entry) → StandsFor history self.old →
@@ -111,18 +112,9 @@ impl Bucket {
                     seed,
                     completed,
                 };
-                let now = self.at_least(minute);
+                let limits = self.limits();
                 let mut peers = Peers::new();
-                let limits = self.torrents.limits();
-                let outcome = announce::<Brand>(
-                    &mut self.torrents,
-                    now,
-                    &joining,
-                    want,
-                    words,
-                    &mut peers,
-                    Blank::new(1),
-                );
+                let outcome = self.announce(minute, &joining, want, words, &mut peers);
                 let counts = match outcome {
                     Ok(counts) => counts,
                     Err(error) => return error.answer(&limits),
@@ -130,9 +122,12 @@ impl Bucket {
                 return Answer::Told { counts, peers };
             }
             Call::Stop { hash, who } => {
-                let now = self.at_least(minute);
+                let counts = match self.stop(minute, &hash, &who) {
+                    Ok(counts) => counts,
+                    Err(_) => return Answer::NoMemory,
+                };
                 return Answer::Told {
-                    counts: stop::<Brand>(&mut self.torrents, now, &hash, &who, Blank::new(1)),
+                    counts,
                     peers: Peers::new(),
                 };
             }
@@ -152,14 +147,135 @@ impl Bucket {
                     held: self.clean(caller, minute),
                 };
             }
-            Call::Sync { .. } | Call::Drain => unreachable!(),
+            Call::Sync { hash, who, mark } => {
+                let limits = self.limits();
+                match self.apply(minute, &hash, &who, mark) {
+                    Ok(()) => return Answer::Applied,
+                    Err(error) => return error.answer(&limits),
+                }
+            }
+            Call::Drain => {
+                let (notes, dropped) = self.drain(minute);
+                return Answer::Drained { notes, dropped };
+            }
         }
+    }
+
+    /// What `call` answers to an announce; its peers are added to an empty list. Room for the note
+    /// is made first. Where there is no memory for it nothing else than the time changes.
+    fn announce(
+        &mut self,
+        minute: Minute,
+        joining: &Joining,
+        want: u32,
+        words: &[u32; 200],
+        told: &mut Peers,
+    ) -> Result<Counts, JoinError>
+        requires formed { IsWellFormed (announce_of joining.now want) }
+        requires empty { told.old ≡ [] }
+        ensures settings { self.new.settings ≡ self.old.settings }
+        ensures kind { IsKindOf self.old.settings (announce_of joining.now want)
+            (announced self.old.settings.limits told.new result) }
+        ensures stands { (caller : ℕ) (history : List Entry) → StandsFor history self.old →
+            StandsFor (history ++ (record {
+              caller = caller;
+              minute = minute;
+              call = announce_of joining.now want;
+              answer = announced self.old.settings.limits told.new result;
+            }) ∷ []) self.new }
+        ensures chosen { IsChosen words.now self.new (announce_of joining.now want)
+            (announced self.old.settings.limits told.new result) }
+        ensures order { KeepsOrder (announce_of joining.now want) self.old self.new }
+    {
+        let now = self.at_least(minute);
+        if self.outbox.reserve().is_err() {
+            return Err(refuse::<Brand>(&mut self.torrents, now, joining, Blank::new(1)));
+        }
+        let counts = announce::<Brand>(
+            &mut self.torrents,
+            now,
+            joining,
+            want,
+            words,
+            told,
+            Blank::new(1),
+        )?;
+        self.outbox
+            .add(&joining.hash, &joining.who, mark_of(joining.seed));
+        Ok(counts)
+    }
+
+    /// What `call` answers to a stop. Room for the note is made first.
+    fn stop(
+        &mut self,
+        minute: Minute,
+        hash: &InfoHash,
+        who: &Endpoint,
+    ) -> Result<Counts, AllocError>
+        requires { IsPeer who.now }
+        ensures settings { self.new.settings ≡ self.old.settings }
+        ensures kind { IsKindOf self.old.settings (Stop hash.now who.now) (stopped result) }
+        ensures stands { (caller : ℕ) (history : List Entry) → StandsFor history self.old →
+            StandsFor (history ++ (record {
+              caller = caller;
+              minute = minute;
+              call = Stop hash.now who.now;
+              answer = stopped result;
+            }) ∷ []) self.new }
+    {
+        let now = self.at_least(minute);
+        if let Err(error) = self.outbox.reserve() {
+            pass::<Brand>(&mut self.torrents, now, Blank::new(1));
+            return Err(error);
+        }
+        let counts = stop::<Brand>(&mut self.torrents, now, hash, who, Blank::new(1));
+        self.outbox.add(hash, who, Mark::Stopped);
+        Ok(counts)
+    }
+
+    /// What `call` answers to a sync. It makes no note.
+    fn apply(
+        &mut self,
+        minute: Minute,
+        hash: &InfoHash,
+        who: &Endpoint,
+        mark: Mark,
+    ) -> Result<(), JoinError>
+        requires { IsPeer who.now }
+        ensures settings { self.new.settings ≡ self.old.settings }
+        ensures kind { IsKindOf self.old.settings (Sync hash.now who.now mark)
+            (applied self.old.settings.limits result) }
+        ensures stands { (caller : ℕ) (history : List Entry) → StandsFor history self.old →
+            StandsFor (history ++ (record {
+              caller = caller;
+              minute = minute;
+              call = Sync hash.now who.now mark;
+              answer = applied self.old.settings.limits result;
+            }) ∷ []) self.new }
+    {
+        let now = self.at_least(minute);
+        apply::<Brand>(&mut self.torrents, now, hash, who, mark, Blank::new(1))
+    }
+
+    /// What `call` answers to a drain: the notes, and how many were dropped.
+    fn drain(&mut self, minute: Minute) -> (Notes, u32)
+        ensures settings { self.new.settings ≡ self.old.settings }
+        ensures stands { (caller : ℕ) (history : List Entry) → StandsFor history self.old →
+            StandsFor (history ++ (record {
+              caller = caller;
+              minute = minute;
+              call = Drain;
+              answer = Drained result.0 result.1;
+            }) ∷ []) self.new }
+    {
+        let now = self.at_least(minute);
+        pass::<Brand>(&mut self.torrents, now, Blank::new(1));
+        self.outbox.drain()
     }
 
     /// What `call` answers to a scrape, the torrent's counts and whether it is known, without the
     /// room for an answer's peers.
     pub fn scrape(&mut self, caller: u32, minute: Minute, hash: &InfoHash) -> (Counts, bool)
-        requires alone { self.old.settings.sync ≡ false }
         ensures settings { self.new.settings ≡ self.old.settings }
         ensures stands { (history : List Entry) → StandsFor history self.old →
             StandsFor (history ++ (record {
@@ -175,7 +291,6 @@ impl Bucket {
 
     /// What `call` answers to a scan: the counts of all known torrents, ascending by hash.
     pub fn scan(&mut self, caller: u32, minute: Minute) -> Result<Rows, AllocError>
-        requires alone { self.old.settings.sync ≡ false }
         ensures settings { self.new.settings ≡ self.old.settings }
         ensures stands { (history : List Entry) → StandsFor history self.old →
             StandsFor (history ++ (record {
@@ -193,7 +308,6 @@ impl Bucket {
     /// What `call` answers to a cleaning: how many peers are left. All that is stored is live and
     /// known then.
     pub fn clean(&mut self, caller: u32, minute: Minute) -> u64
-        requires alone { self.old.settings.sync ≡ false }
         ensures settings { self.new.settings ≡ self.old.settings }
         ensures stands { (history : List Entry) → StandsFor history self.old →
             StandsFor (history ++ (record {
@@ -220,7 +334,7 @@ impl Bucket {
     pub fn is_synced(&self) -> bool
         ensures { result ≡ self.now.settings.sync }
     {
-        self.sync
+        self.outbox.is_synced()
     }
 
     /// The bucket's time: the greatest minute that it was handed, at first 0.

@@ -2,13 +2,13 @@
 //! are no longer known.
 
 ghost use Rattle.std.specs.Prelude.{◌≡◌, ◌<◌, ◌≤◌, [], IfOk, Some};
-ghost use Rattle.bucket.specs.Calls.{Announces, AreRowsOf, Cleans, Joins, Opens, Scrapes, Stays, Stops};
+ghost use Rattle.bucket.specs.Calls.{Announces, Applies, AreRowsOf, Cleans, Forgets, Joins, Opens, Refuses, Scrapes, Stays, Stops, TakesPart, joining_by};
 ghost use Rattle.bucket.specs.Torrents.{place_of};
 
 use crate::joining::{JoinError, Joining};
 use crate::torrents::Torrents;
 use node_table::Steps;
-use ot_base::{Counts, Endpoint, InfoHash, Minute, Peers, Rows};
+use ot_base::{Counts, Endpoint, InfoHash, Mark, Minute, Peers, Rows};
 use std::alloc::AllocError;
 use std::sync::ledger::{Blank, Ledger};
 
@@ -46,6 +46,27 @@ pub fn announce<L: Ledger>(
     Ok(torrents.counts(place))
 }
 
+/// Moves the time on alone, and tells why an endpoint can't take part where there is no memory for
+/// it: something is full, or memory is wanted.
+pub fn refuse<L: Ledger>(
+    torrents: &mut Torrents,
+    now: Minute,
+    joining: &Joining,
+    blank: Blank,
+) -> JoinError
+    requires later { torrents.old.time ≤ now.0 }
+    requires name { blank.name ≡ L.name }
+    requires parts { blank.parts ≡ L.parts }
+    requires counts { 0 < blank.parts }
+    ensures { Refuses now.0 joining.now.hash joining.now.who torrents.old torrents.new result }
+{
+    let mut steps = Steps::<L>::new(blank);
+    match open(torrents, now, &joining.hash, &mut steps) {
+        Some(place) => JoinError::SwarmFull.or_memory(torrents.is_full_for(place, &joining.who)),
+        None => JoinError::BucketFull.or_memory(torrents.is_full()),
+    }
+}
+
 /// Takes an endpoint out of its torrent, if it takes part in it, and answers the torrent's counts.
 pub fn stop<L: Ledger>(
     torrents: &mut Torrents,
@@ -70,6 +91,59 @@ pub fn stop<L: Ledger>(
     }
 }
 
+/// Applies what another node says of an endpoint of a torrent. Only for a new endpoint it may want
+/// memory.
+pub fn apply<L: Ledger>(
+    torrents: &mut Torrents,
+    now: Minute,
+    hash: &InfoHash,
+    who: &Endpoint,
+    mark: Mark,
+    blank: Blank,
+) -> Result<(), JoinError>
+    requires later { torrents.old.time ≤ now.0 }
+    requires name { blank.name ≡ L.name }
+    requires parts { blank.parts ≡ L.parts }
+    requires counts { 0 < blank.parts }
+    ensures { Applies now.0 hash.now who.now mark torrents.old torrents.new result }
+{
+    match mark {
+        Mark::Leecher => take_part::<L>(torrents, now, hash, who, false, blank),
+        Mark::Seed => take_part::<L>(torrents, now, hash, who, true, blank),
+        Mark::Stopped => {
+            stop::<L>(torrents, now, hash, who, blank);
+            Ok(())
+        }
+    }
+}
+
+/// Lets an endpoint take part, with no download that it completes.
+fn take_part<L: Ledger>(
+    torrents: &mut Torrents,
+    now: Minute,
+    hash: &InfoHash,
+    who: &Endpoint,
+    seed: bool,
+    blank: Blank,
+) -> Result<(), JoinError>
+    requires later { torrents.old.time ≤ now.0 }
+    requires name { blank.name ≡ L.name }
+    requires parts { blank.parts ≡ L.parts }
+    requires counts { 0 < blank.parts }
+    ensures { TakesPart now.0 (joining_by hash.now who.now seed) torrents.old torrents.new result }
+{
+    let joining = Joining {
+        hash: *hash,
+        who: *who,
+        seed,
+        completed: false,
+    };
+    let mut steps = Steps::<L>::new(blank);
+    torrents.move_on(now, &mut steps);
+    join(torrents, &joining, &mut steps)?;
+    Ok(())
+}
+
 /// The counts of a torrent, and whether it is known.
 pub fn scrape<L: Ledger>(
     torrents: &mut Torrents,
@@ -88,6 +162,18 @@ pub fn scrape<L: Ledger>(
         Some(place) => (torrents.counts(place), true),
         None => (NO_COUNTS, false),
     }
+}
+
+/// Moves the time on alone.
+pub fn pass<L: Ledger>(torrents: &mut Torrents, now: Minute, blank: Blank)
+    requires later { torrents.old.time ≤ now.0 }
+    requires name { blank.name ≡ L.name }
+    requires parts { blank.parts ≡ L.parts }
+    requires counts { 0 < blank.parts }
+    ensures { Forgets now.0 torrents.old torrents.new }
+{
+    let mut steps = Steps::<L>::new(blank);
+    torrents.move_on(now, &mut steps);
 }
 
 /// Drops all peers that aren't live.

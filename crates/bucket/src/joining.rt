@@ -1,6 +1,6 @@
 //! Endpoints that take part in torrents, and why they may not.
 
-ghost use Rattle.std.specs.Prelude.{◌≡◌};
+ghost use Rattle.std.specs.Prelude.{◌≡◌, if◌then◌else◌};
 ghost use Rattle.bucket.specs.Answers.{error_answer};
 ghost use Rattle.bucket.specs.declared.joining.JoinError.TheVariants.{NoMemory};
 
@@ -31,6 +31,13 @@ pub enum JoinError {
 }
 
 impl JoinError {
+    /// This one where it is met, and else want of memory.
+    pub fn or_memory(self, is_met: bool) -> JoinError
+        ensures { result ≡ (if is_met then self else NoMemory) }
+    {
+        if is_met { self } else { JoinError::NoMemory }
+    }
+
     /// What an announce is answered then.
     pub fn answer(self, limits: &Limits) -> Answer
         ensures { result ≡ error_answer limits.now self }

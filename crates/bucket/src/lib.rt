@@ -10,6 +10,7 @@ mod changes;
 mod index;
 mod joining;
 pub mod laws;
+mod outbox;
 pub mod shelf;
 mod stored;
 #[cfg(test)]

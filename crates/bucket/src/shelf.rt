@@ -41,12 +41,12 @@ impl Model for Shelf {
 }
 
 impl Shelf {
-    ghost use Rattle.std.specs.Prelude.{[], All, IfOk, List, false, length, replicate, true};
-    ghost use Rattle.tracker_model.specs.Calls.{IsWellFormed, is_request};
+    ghost use Rattle.std.specs.Prelude.{[], All, IfOk, List, length, replicate, true};
+    ghost use Rattle.tracker_model.specs.Calls.{IsWellFormed, names_torrent};
     ghost use Rattle.tracker_model.specs.Kinds.{IsKindOf};
     ghost use Rattle.tracker_model.specs.Placed.{bucket_for};
     ghost use Rattle.tracker_model.specs.Settings.{AreLimits, Settings};
-    ghost use Rattle.bucket.specs.Public.{IsChosen, IsCleaned, KeepsOrder, is_own};
+    ghost use Rattle.bucket.specs.Public.{IsChosen, IsCleaned, KeepsOrder};
     ghost use Rattle.bucket.specs.Shelf.{AllStand, AreAlike, IsPlacedIn, IsShelf, MadeOnShelf, bucket_at};
 
     /// A shelf of 2^`bits` buckets of which nothing has been asked.
@@ -92,11 +92,10 @@ impl Shelf {
         }
     }
 
-    /// Makes an announce, a stop or a scrape on its torrent's bucket.
+    /// Makes a call that names a torrent on that torrent's bucket.
     pub fn call(&mut self, minute: Minute, call: Call, words: &[u32; 200]) -> Answer
         requires formed { IsWellFormed call }
-        requires alone { self.old.settings.sync ≡ false }
-        requires request { is_request call ≡ true }
+        requires named { names_torrent call ≡ true }
         ensures settings { self.new.settings ≡ self.old.settings }
         ensures bits { self.new.bits ≡ self.old.bits }
         ensures kind { IsKindOf self.old.settings call result }
@@ -117,8 +116,6 @@ impl Shelf {
         requires within { bucket < 2 ^ self.old.bits }
         requires placed { IsPlacedIn (bucket_in self.old.bits) bucket call }
         requires formed { IsWellFormed call }
-        requires alone { self.old.settings.sync ≡ false }
-        requires answerable { is_own call ≡ true }
         ensures settings { self.new.settings ≡ self.old.settings }
         ensures bits { self.new.bits ≡ self.old.bits }
         ensures kind { IsKindOf self.old.settings call result }

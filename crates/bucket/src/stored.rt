@@ -1,6 +1,6 @@
 //! What is stored of one torrent.
 
-ghost use Rattle.std.specs.Prelude.{◌≡◌, ℕ, ◌+◌, ◌<◌, ◌≤◌, ◌⊎◌, [], not, ◌&&◌, IfOk, IsSome, OnErr, OnOk, find, is_some, None, length, sum_by};
+ghost use Rattle.std.specs.Prelude.{◌≡◌, ℕ, ◌+◌, ◌<◌, ◌≤◌, ◌⊎◌, ◌==◌, [], not, ◌&&◌, IfOk, IsSome, OnErr, OnOk, find, is_none, is_some, None, length, sum_by};
 ghost use Rattle.ot_base.specs.Address.{family_of};
 ghost use Rattle.tracker_model.specs.Known.{is_seed};
 ghost use Rattle.tracker_model.specs.Steps.{one_more};
@@ -68,6 +68,15 @@ impl Stored {
         self.swarm.place(who).is_some()
     }
 
+    /// Whether an endpoint isn't one of its peers, and these are as many as there may be.
+    pub fn is_full_for(&self, limit: u32, who: &Endpoint) -> bool
+        ensures { result ≡
+            (is_none (find (is_of who.now) (of_family (family_of who.now.addr) self.now.swarm))
+            && (peer_count self.now.swarm == limit)) }
+    {
+        self.len() == limit && !self.has(who)
+    }
+
     /// The torrent's counts, over all of its peers.
     pub fn counts(&self) -> Counts
         ensures { result ≡ record {
@@ -115,7 +124,7 @@ impl Stored {
         ensures fit { IsFit limit now.0 self.new }
     {
         self.move_on(now, steps);
-        if self.len() == limit && !self.has(&joining.who) {
+        if self.is_full_for(limit, &joining.who) {
             return Err(JoinError::SwarmFull);
         }
         self.put(joining, steps)?;

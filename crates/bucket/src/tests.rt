@@ -1,15 +1,15 @@
 //! What no clause says: worked values.
 
-ghost use Rattle.std.specs.Prelude.{◌≡◌, ◌≤◌, IfOk, true, false};
-ghost use Rattle.tracker_model.specs.Calls.{IsPeer, IsWellFormed, is_request};
+ghost use Rattle.std.specs.Prelude.{◌≡◌, ◌≤◌, true};
+ghost use Rattle.tracker_model.specs.Calls.{IsPeer, IsWellFormed, names_torrent};
 ghost use Rattle.tracker_model.specs.Settings.{AreLimits};
-ghost use Rattle.bucket.specs.Public.{is_own};
 
 mod random;
 mod shelves;
+mod syncs;
 
 use super::*;
-use ot_base::{Addr, Endpoint, InfoHash, Limits, Minute};
+use ot_base::{Addr, Endpoint, InfoHash, Limits, Mark, Minute};
 use std::alloc::{AllocError, Global};
 use std::process::Abort;
 use std::test::Fail;
@@ -53,6 +53,8 @@ enum Asks {
     Finisher,
     Stop,
     Scrape,
+    /// Another node says so of the peer.
+    Synced(Mark),
 }
 
 /// What it is answered.
@@ -64,6 +66,7 @@ enum Outcome {
     Stats(u32, u32, u32, bool),
     SwarmFull(u32),
     BucketFull(u32),
+    Applied,
     Otherwise,
 }
 
@@ -97,11 +100,9 @@ fn outcome_of(answer: &Answer) -> Outcome {
         ),
         Answer::SwarmFull { count } => Outcome::SwarmFull(*count),
         Answer::BucketFull { count } => Outcome::BucketFull(*count),
-        Answer::Rows { .. }
-        | Answer::Cleaned { .. }
-        | Answer::Applied
-        | Answer::Drained { .. }
-        | Answer::NoMemory => Outcome::Otherwise,
+        Answer::Applied => Outcome::Applied,
+        Answer::Rows { .. } | Answer::Cleaned { .. } | Answer::Drained { .. } | Answer::NoMemory =>
+            Outcome::Otherwise,
     }
 }
 
@@ -110,8 +111,7 @@ fn announce(hash: InfoHash, who: Endpoint, seed: bool, completed: bool, want: u3
     requires finished { completed ≡ true → seed ≡ true }
     requires wanted { want ≤ 200 }
     ensures formed { IsWellFormed result }
-    ensures own { is_own result ≡ true }
-    ensures request { is_request result ≡ true }
+    ensures named { names_torrent result ≡ true }
 {
     Call::Announce {
         hash,
@@ -125,8 +125,7 @@ fn announce(hash: InfoHash, who: Endpoint, seed: bool, completed: bool, want: u3
 fn call_of(hash: InfoHash, who: Endpoint, asks: Asks) -> Call
     requires peer { IsPeer who }
     ensures formed { IsWellFormed result }
-    ensures own { is_own result ≡ true }
-    ensures request { is_request result ≡ true }
+    ensures named { names_torrent result ≡ true }
 {
     match asks {
         Asks::Leecher => announce(hash, who, false, false, 50),
@@ -134,14 +133,13 @@ fn call_of(hash: InfoHash, who: Endpoint, asks: Asks) -> Call
         Asks::Finisher => announce(hash, who, true, true, 50),
         Asks::Stop => Call::Stop { hash, who },
         Asks::Scrape => Call::Scrape { hash },
+        Asks::Synced(mark) => Call::Sync { hash, who, mark },
     }
 }
 
 /// Asks once, and again where there was no memory.
 fn ask(bucket: &mut Bucket, minute: u32, call: Call, words: &[u32; 200]) -> Answer
-    requires formed { IsWellFormed call }
-    requires alone { bucket.old.settings.sync ≡ false }
-    requires request { is_own call ≡ true }
+    requires { IsWellFormed call }
     ensures { bucket.new.settings ≡ bucket.old.settings }
 {
     match bucket.call(0, Minute(minute), call, words) {
@@ -304,9 +302,7 @@ fn stops_and_scrapes_keep_no_torrent_known(rt: HostRuntime) -> Result<(), Fail> 
 }
 
 /// A bucket with so many peers of one torrent.
-fn with_others(alloc: Global, others: u16) -> Result<Bucket, AllocError>
-    ensures { IfOk result (λ bucket. bucket.settings.sync ≡ false) }
-{
+fn with_others(alloc: Global, others: u16) -> Result<Bucket, AllocError> {
     let mut bucket = Bucket::new(alloc, USUAL, false)?;
     for n in 0..others {
         let [high, low] = n.to_be_bytes();
@@ -347,10 +343,7 @@ fn as_many_peers_as_are_wanted(rt: HostRuntime) -> Result<(), Fail> {
 
 /// Asks, and compares the bucket's time and how many peers it has then with what is wanted.
 fn check_stored(rt: &impl Abort, bucket: &mut Bucket, minute: u32, call: Call, want: (u32, u64))
-    requires formed { IsWellFormed call }
-    requires alone { bucket.old.settings.sync ≡ false }
-    requires request { is_own call ≡ true }
-    ensures { bucket.new.settings ≡ bucket.old.settings }
+    requires { IsWellFormed call }
 {
     ask(bucket, minute, call, &WORDS);
     assert_eq!(rt; (bucket.time().0, bucket.held()), want, "at {minute}");
@@ -386,10 +379,7 @@ fn check_touches(
     hash: InfoHash,
     label: &str,
     want: &[(InfoHash, u32)],
-) -> Result<(), AllocError>
-    requires { bucket.old.settings.sync ≡ false }
-    ensures { bucket.new.settings ≡ bucket.old.settings }
-{
+) -> Result<(), AllocError> {
     let call = call_of(hash, numbered(1), Asks::Leecher);
     ask(bucket, minute, call, &WORDS);
     assert_eq!(rt; touches(rt.alloc(), bucket)?.as_slice(), want, "{label}");
@@ -415,9 +405,7 @@ fn torrents_stand_in_the_order_in_which_they_came(rt: HostRuntime) -> Result<(),
 }
 
 /// A bucket with a torrent of one peer, and one of two, the second of which came 44 minutes later.
-fn with_two_torrents(alloc: Global) -> Result<Bucket, AllocError>
-    ensures { IfOk result (λ bucket. bucket.settings.sync ≡ false) }
-{
+fn with_two_torrents(alloc: Global) -> Result<Bucket, AllocError> {
     let mut bucket = Bucket::new(alloc, USUAL, false)?;
     for (minute, hash, n) in [(0, B, 1), (0, A, 1), (44, A, 2)] {
         let call = call_of(hash, numbered(n), Asks::Leecher);
@@ -431,10 +419,7 @@ fn scanned(
     rt: &(impl Abort + AllocGlobal),
     bucket: &mut Bucket,
     minute: u32,
-) -> Result<Vec<(u8, u32)>, AllocError>
-    requires { bucket.old.settings.sync ≡ false }
-    ensures { bucket.new.settings ≡ bucket.old.settings }
-{
+) -> Result<Vec<(u8, u32)>, AllocError> {
     let mut told = Vec::new(rt.alloc());
     if let Answer::Rows { rows } = ask(bucket, minute, Call::Scan, &WORDS) {
         for row in rows.as_slice() {
@@ -475,10 +460,7 @@ fn check_cleaning(
     label: &str,
     before: (u64, u32),
     after: (u64, u32),
-)
-    requires { bucket.old.settings.sync ≡ false }
-    ensures { bucket.new.settings ≡ bucket.old.settings }
-{
+) {
     assert_eq!(rt; stored(bucket), before, "{label}: before");
     let held = match ask(bucket, minute, Call::Clean, &WORDS) {
         Answer::Cleaned { held } => held,

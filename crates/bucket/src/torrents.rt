@@ -42,7 +42,7 @@ impl Model for Torrents {
 }
 
 impl Torrents {
-    ghost use Rattle.std.specs.Prelude.{◌≡◌, ◌+◌, ◌<◌, ◌≤◌, [], ◌∷◌, ◌++◌, IfOk, OnErr, OnOk, MatchOption, length, slice_get, sum_by, None};
+    ghost use Rattle.std.specs.Prelude.{◌≡◌, ◌==◌, ◌+◌, ◌<◌, ◌≤◌, [], ◌∷◌, ◌++◌, IfOk, OnErr, OnOk, MatchOption, length, slice_get, sum_by, None};
     ghost use Rattle.std.specs.List.{AllZip};
     ghost use Rattle.ot_base.specs.Address.{family_of};
     ghost use Rattle.tracker_model.specs.Settings.{AreLimits};
@@ -51,7 +51,7 @@ impl Torrents {
     ghost use Rattle.swarm.specs.Peers.{choice_of};
     ghost use Rattle.bucket.specs.Calls.{Adds, AreRowsOf, Forgets, JoinsAt, Stays};
     ghost use Rattle.bucket.specs.Table.{IsSound, pairs_of};
-    ghost use Rattle.bucket.specs.Torrents.{Freshens, Turns, of_family, place_of, tally, without_peer};
+    ghost use Rattle.bucket.specs.Torrents.{Freshens, Turns, is_full_for, of_family, place_of, tally, without_peer};
 
     /// No torrents, at the minute 0. Of memory it takes four bytes for each of the 1,440 ages.
     pub fn new(alloc: Global, limits: Limits) -> Result<Self, AllocError>
@@ -112,6 +112,23 @@ impl Torrents {
             (λ torrent. result ≡ tally torrent) }
     {
         self.list[place as usize].counts()
+    }
+
+    /// Whether there are as many torrents as there may be.
+    pub fn is_full(&self) -> bool
+        ensures { result ≡ (length self.now.torrents == self.now.limits.torrents) }
+    {
+        self.ring.len() == self.limits.torrents
+    }
+
+    /// Whether an endpoint isn't one of the peers of the torrent at a place, and these are as many
+    /// as there may be.
+    pub fn is_full_for(&self, place: u32, who: &Endpoint) -> bool
+        requires { place < length self.now.torrents }
+        ensures { MatchOption (slice_get self.now.torrents place) ⊥
+            (λ torrent. result ≡ is_full_for self.now.limits.peers who.now torrent) }
+    {
+        self.list[place as usize].is_full_for(self.limits.peers, who)
     }
 
     /// Adds to an empty list the endpoints that the words choose among the peers of the torrent at

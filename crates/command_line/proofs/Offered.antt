@@ -6,11 +6,10 @@ use Rattle.std.specs.Option.{is_none, option_and_then, option_map, option_map_or
 use Rattle.std.specs.Str.{bytes_eq}
 use Rattle.std.proofs.lemmas.Result.{IfOk-at_ok}
 use Rattle.query_read.specs.Query.{number_of}
-use Rattle.ot_io.specs.declared.settings.ServeSettings.{ServeSettings}
 use Rattle.offline.specs.Command.{IsOffered}
 use Rattle.command_line.specs.Settings.{asked_setting, bits_setting, given_of, no_settings, once, place_of, server_setting, tracker_setting, word_setting}
-use Rattle.command_line.specs.Values.{endpoint_value, mode_value, number_among, number_value, secret_value, switch_value}
-use Rattle.command_line.specs.Words.{MayServe, replay_of, server_of}
+use Rattle.command_line.specs.Values.{endpoint_value, mode_value, nodes_value, number_among, number_value, secret_value, switch_value}
+use Rattle.command_line.specs.Words.{MayServe, replay_of, server_of, shares_in_part, sync_of}
 use Rattle.command_line.specs.declared.settings.Asked.{Asked}
 use Rattle.command_line.specs.declared.settings.Asked.TheVariants.{Replay, Drill, Serve}
 use Rattle.command_line.specs.declared.settings.Given.{Given}
@@ -94,7 +93,16 @@ server-within given name text h =
     (either (bytes_eq name (codes "workers")) _ _
     (set given.workers (number_value 1 64 text) (IsWithin 1 64) (λ value. record given { workers = Some value }) (value-within 1 64 text)
     (λ x k. record { bits = h.bits; peers = h.peers; torrents = h.torrents; workers = k }))
-    (tracker-within given name text h))))
+    (either (bytes_eq name (codes "sync")) _ _
+    (set given.sync (endpoint_value text) (λ x. Unit {0}) (λ value. record given { sync = Some value }) (any (endpoint_value text))
+    (λ x k. record { bits = h.bits; peers = h.peers; torrents = h.torrents; workers = h.workers }))
+    (either (bytes_eq name (codes "nodes")) _ _
+    (set given.nodes (nodes_value text) (λ x. Unit {0}) (λ value. record given { nodes = Some value }) (any (nodes_value text))
+    (λ x k. record { bits = h.bits; peers = h.peers; torrents = h.torrents; workers = h.workers }))
+    (either (bytes_eq name (codes "id")) _ _
+    (set given.id (number_value 0 4294967295 text) (λ x. Unit {0}) (λ value. record given { id = Some value }) (any (number_value 0 4294967295 text))
+    (λ x k. record { bits = h.bits; peers = h.peers; torrents = h.torrents; workers = h.workers }))
+    (tracker-within given name text h)))))))
 
 asked-within : (asked : Asked) (given : Given) (name text : List ℕ) → AreWithin given → IfSome (asked_setting asked given name text) AreWithin
 asked-within Replay given name text h = tracker-within given name text h
@@ -141,7 +149,7 @@ given-offered asked at words given h = replay-offered given (given-all asked at 
 pub given-few_bits : (asked : Asked) (at : ℕ) (words : List (List ℕ)) (given : Given) → given_of asked at no_settings words ≡ Ok given → unwrap_or given.bits 10 ≤ 10
 given-few_bits asked at words given h = (within-usual 0 10 10 given.bits (given-all asked at words given h).bits (grind arith)).1
 
-serves : (given : Given) → AreWithin given → (lacks : Bool) → IfSome (if lacks then None else Some (record { replay = replay_of given; udp = given.udp; http = given.http; workers = unwrap_or given.workers 2 })) MayServe
+serves : (given : Given) → AreWithin given → (lacks : Bool) → IfSome (if lacks then None else Some (record { replay = replay_of given; udp = given.udp; http = given.http; sync = sync_of given; workers = unwrap_or given.workers 2 })) MayServe
 serves given h true = tt
 serves given h false =
     let workers = within-usual 1 64 2 given.workers h.workers (grind arith) in
@@ -150,4 +158,4 @@ serves given h false =
 -- the settings of a server are some that it may have
 pub given-serves : (asked : Asked) (at : ℕ) (words : List (List ℕ)) (given : Given) → given_of asked at no_settings words ≡ Ok given → IfSome (server_of given) MayServe
 given-serves asked at words given h =
-    serves given (given-all asked at words given h) (is_none given.secret || (is_none given.udp && is_none given.http))
+    serves given (given-all asked at words given h) (is_none given.secret || (is_none given.udp && is_none given.http) || shares_in_part given)

@@ -4,8 +4,8 @@ use Rattle.std.specs.Prelude.{Option, Some, None, Result, Ok, Err}
 use Rattle.std.specs.List.{after_first, before_first, list_any}
 use Rattle.std.specs.Option.{option_map, option_map_or}
 use Rattle.std.specs.Str.{bytes_eq}
-use Rattle.command_line.specs.Values.{endpoint_value, mode_value, number_value, secret_value}
-use Rattle.command_line.specs.Values.{switch_value}
+use Rattle.command_line.specs.Values.{endpoint_value, mode_value, nodes_value, number_value}
+use Rattle.command_line.specs.Values.{secret_value, switch_value}
 use Rattle.command_line.specs.declared.settings.Asked.{Asked}
 use Rattle.command_line.specs.declared.settings.Asked.TheVariants.{Replay, Drill, Serve}
 use Rattle.command_line.specs.declared.settings.Given.{Given}
@@ -63,6 +63,15 @@ server_setting given name text =
     else if bytes_eq name (codes "workers")
     then option_map (λ value. record given { workers = Some value })
     (once given.workers (number_value 1 64 text))
+    else if bytes_eq name (codes "sync")
+    then option_map (λ value. record given { sync = Some value })
+    (once given.sync (endpoint_value text))
+    else if bytes_eq name (codes "nodes")
+    then option_map (λ value. record given { nodes = Some value })
+    (once given.nodes (nodes_value text))
+    else if bytes_eq name (codes "id")
+    then option_map (λ value. record given { id = Some value })
+    (once given.id (number_value 0 (2 ^ 32 - 1) text))
     else tracker_setting given name text
 
 abbrev pub asked_setting : Asked → Given → (name text : List ℕ) → Option Given
@@ -102,4 +111,7 @@ no_settings = record {
   udp = None;
   http = None;
   workers = None;
+  sync = None;
+  nodes = None;
+  id = None;
 }

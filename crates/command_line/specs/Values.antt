@@ -1,8 +1,9 @@
 -- The values of settings, as words write them.
 use Rattle.std.specs.Prelude.{ℕ, ◌==◌, ◌&&◌, nat_le, Bool, true, false, if◌then◌else◌}
-use Rattle.std.specs.Prelude.{List, length, codes, Option, Some, None, Result, Ok, Err}
-use Rattle.std.specs.List.{after_first, before_first, list_any}
-use Rattle.std.specs.Option.{option_and_then}
+use Rattle.std.specs.Prelude.{◌-◌, ◌++◌, List, length, map, codes, replicate}
+use Rattle.std.specs.Prelude.{Option, Some, None, Result, Ok, Err}
+use Rattle.std.specs.List.{after_first, before_first, list_all, list_any, slice_split}
+use Rattle.std.specs.Option.{is_some, option_and_then}
 use Rattle.std.specs.Str.{bytes_eq}
 use Rattle.hex.specs.Hex.{decode_of}
 use Rattle.hex.specs.declared.error.FromHexError.{FromHexError}
@@ -61,3 +62,14 @@ endpoint_value text =
     if list_any (λ b. b == 58) text
     then endpoint_from (before_first (λ b. b == 58) text) (after_first (λ b. b == 58) text)
     else None
+
+-- 1 to 16 endpoints, each of which could be read, in 16 places: the others are empty
+abbrev pub nodes_of : List (Option Endpoint) → Option (List (Option Endpoint))
+nodes_of endpoints =
+    if nat_le (length endpoints) 16 && list_all is_some endpoints
+    then Some (endpoints ++ replicate (16 - length endpoints) None)
+    else None
+
+-- the endpoints of other nodes, with `,` (44) between; an empty text is one that can't be read
+abbrev pub nodes_value : List ℕ → Option (List (Option Endpoint))
+nodes_value text = nodes_of (map endpoint_value (slice_split (λ b. b == 44) text))

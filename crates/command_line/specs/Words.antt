@@ -1,14 +1,14 @@
 -- What the words of a command line ask for.
-use Rattle.std.specs.Prelude.{ℕ, ◌+◌, ◌-◌, ◌^◌, ◌≤◌, ◌&&◌, ◌||◌, false, if◌then◌else◌}
-use Rattle.std.specs.Prelude.{List, [], ◌∷◌, length, codes, replicate, min}
+use Rattle.std.specs.Prelude.{ℕ, ◌+◌, ◌-◌, ◌^◌, ◌≤◌, ◌&&◌, ◌||◌, Bool, false, if◌then◌else◌}
+use Rattle.std.specs.Prelude.{List, [], ◌∷◌, length, codes, replicate}
 use Rattle.std.specs.Prelude.{Option, Some, None, Result, Ok, Err, unwrap_or}
-use Rattle.std.specs.Option.{is_none, option_map_or}
-use Rattle.std.specs.Result.{result_map_both}
+use Rattle.std.specs.Option.{is_none, is_some, option_and_then, option_map, option_map_or}
 use Rattle.std.specs.Str.{bytes_eq}
 use Rattle.load_model.specs.Load.{CanDrill}
 use Rattle.ot_base.specs.declared.hash.Secret.{Secret}
 use Rattle.ot_io.specs.declared.settings.ReplaySettings.{ReplaySettings}
 use Rattle.ot_io.specs.declared.settings.ServeSettings.{ServeSettings}
+use Rattle.ot_io.specs.declared.settings.SyncSettings.{SyncSettings}
 use Rattle.offline.specs.Command.{IsOffered, settings_of}
 use Rattle.offline.specs.declared.command.Offline.TheVariants as offline
 use Rattle.command_line.specs.Settings.{given_of, no_settings, place_of}
@@ -42,14 +42,27 @@ replay_of given =
       access = given.access;
     }
 
+-- with whom a server shares, where all three settings of that are given
+abbrev pub sync_of : Given → Option SyncSettings
+sync_of given =
+    option_and_then (λ at. option_and_then (λ own. option_map
+    (λ nodes. record { at = at; own = own; nodes = nodes }) given.nodes) given.id) given.sync
+
+-- whether some of the three are given, but not all
+abbrev pub shares_in_part : Given → Bool
+shares_in_part given =
+    is_none (sync_of given) && (is_some given.sync || is_some given.nodes || is_some given.id)
+
 -- the settings of a server; a secret is needed, and a place where requests come
 abbrev pub server_of : Given → Option ServeSettings
 server_of given =
-    if is_none given.secret || (is_none given.udp && is_none given.http) then None
+    if is_none given.secret || (is_none given.udp && is_none given.http)
+    || shares_in_part given then None
     else Some (record {
       replay = replay_of given;
       udp = given.udp;
       http = given.http;
+      sync = sync_of given;
       workers = unwrap_or given.workers 2;
     })
 

@@ -5,9 +5,12 @@ ghost use Rattle.command_line.specs.Settings.{asked_setting, bits_setting, given
 ghost use Rattle.command_line.specs.Settings.{no_settings, once, place_of};
 ghost use Rattle.command_line.specs.Settings.{server_setting, tracker_setting, word_setting};
 
-use crate::values::{read_endpoint, read_mode, read_number, read_secret, read_small, read_switch};
+use crate::values::{
+    read_endpoint, read_mode, read_nodes, read_number, read_secret, read_small, read_switch,
+};
 use crate::words::WordsFault;
 use ot_base::{Endpoint, Mode, Secret};
+use ot_io::NODES;
 
 /// Whose settings are read. Other commands have other settings.
 #[derive(Clone, Copy, Debug, PartialEq, Eq)]
@@ -30,6 +33,9 @@ pub struct Given {
     pub udp: Option<Endpoint>,
     pub http: Option<Endpoint>,
     pub workers: Option<u32>,
+    pub sync: Option<Endpoint>,
+    pub nodes: Option<[Option<Endpoint>; NODES]>,
+    pub id: Option<u32>,
 }
 
 /// Reads the settings of a command, of which the first stands at this place.
@@ -51,6 +57,9 @@ pub fn read_settings(asked: Asked, at: u32, words: &[&str]) -> Result<Given, Wor
         udp: None,
         http: None,
         workers: None,
+        sync: None,
+        nodes: None,
+        id: None,
     };
     for (i, word) in words.iter().enumerate() {
         match read_setting(asked, given, word) {
@@ -98,6 +107,18 @@ fn with_server(given: Given, name: &str, text: &str) -> Option<Given>
         }),
         "workers" => Some(Given {
             workers: Some(once(given.workers, read_small(text, 1, 64))?),
+            ..given
+        }),
+        "sync" => Some(Given {
+            sync: Some(once(given.sync, read_endpoint(text))?),
+            ..given
+        }),
+        "nodes" => Some(Given {
+            nodes: Some(once(given.nodes, read_nodes(text))?),
+            ..given
+        }),
+        "id" => Some(Given {
+            id: Some(once(given.id, read_small(text, 0, u32::MAX))?),
             ..given
         }),
         _ => with_tracker(given, name, text),

@@ -4,7 +4,7 @@ use crate::words::{Command, WordsFault, read_words};
 use load_model::DrillSettings;
 use offline::Offline;
 use ot_base::{Addr, Endpoint, Limits, Mode, Secret};
-use ot_io::{ReplaySettings, ServeSettings};
+use ot_io::{NODES, ReplaySettings, ServeSettings, SyncSettings};
 use std::test::Fail;
 
 const ZEROS: &str = "secret=0000000000000000000000000000000000000000";
@@ -262,7 +262,7 @@ fn drills_are_read(rt: HostRuntime) {
     }
 }
 
-/// The settings of a server at loopback, at this port.
+/// This port of loopback.
 fn at(port: u16) -> Option<Endpoint> {
     Some(Endpoint {
         addr: Addr::V4([127, 0, 0, 1]),
@@ -270,18 +270,23 @@ fn at(port: u16) -> Option<Endpoint> {
     })
 }
 
-#[test]
-fn servers_are_read(rt: HostRuntime) {
-    let usual = ServeSettings {
+/// The settings of a server of datagrams, with a secret of zeros.
+fn usual_server() -> ServeSettings {
+    ServeSettings {
         replay: USUAL,
         udp: at(6969),
         http: None,
+        sync: None,
         workers: 2,
-    };
+    }
+}
+
+#[test]
+fn servers_are_read(rt: HostRuntime) {
     for (words, want) in [
         (
             ["serve", ZEROS, "udp=127.0.0.1:6969"].as_slice(),
-            Ok(Command::Serve(usual)),
+            Ok(Command::Serve(usual_server())),
         ),
         (
             &[
@@ -296,6 +301,7 @@ fn servers_are_read(rt: HostRuntime) {
                 replay: ReplaySettings { bits: 3, ..USUAL },
                 udp: at(65_535),
                 http: at(1),
+                sync: None,
                 workers: 64,
             })),
         ),
@@ -332,6 +338,125 @@ fn endpoints_that_can_not_stand(rt: HostRuntime) {
         assert_eq!(rt;
             read_words(&["serve", ZEROS, word]),
             Err(WordsFault::At(2)),
+            "{word}"
+        );
+    }
+}
+
+/// The server that shares with nodes at these ports, in this order.
+fn sharing(own: u32, ports: &[u16]) -> Result<Command, WordsFault> {
+    let mut nodes = [None; NODES];
+    for (node, port) in nodes.iter_mut().zip(ports) {
+        *node = at(*port);
+    }
+    Ok(Command::Serve(ServeSettings {
+        sync: Some(SyncSettings {
+            at: Endpoint {
+                addr: Addr::V4([127, 0, 0, 1]),
+                port: 7000,
+            },
+            own,
+            nodes,
+        }),
+        ..usual_server()
+    }))
+}
+
+const UDP: &str = "udp=127.0.0.1:6969";
+
+const SYNC: &str = "sync=127.0.0.1:7000";
+
+const NODE: &str = "nodes=127.0.0.1:1";
+
+/// Sixteen nodes, at the ports 1 to 16.
+const SIXTEEN: &str = "nodes=127.0.0.1:1,127.0.0.1:2,127.0.0.1:3,127.0.0.1:4,127.0.0.1:5,\
+    127.0.0.1:6,127.0.0.1:7,127.0.0.1:8,127.0.0.1:9,127.0.0.1:10,127.0.0.1:11,127.0.0.1:12,\
+    127.0.0.1:13,127.0.0.1:14,127.0.0.1:15,127.0.0.1:16";
+
+/// One node more.
+const SEVENTEEN: &str = "nodes=127.0.0.1:1,127.0.0.1:2,127.0.0.1:3,127.0.0.1:4,127.0.0.1:5,\
+    127.0.0.1:6,127.0.0.1:7,127.0.0.1:8,127.0.0.1:9,127.0.0.1:10,127.0.0.1:11,127.0.0.1:12,\
+    127.0.0.1:13,127.0.0.1:14,127.0.0.1:15,127.0.0.1:16,127.0.0.1:17";
+
+#[test]
+fn servers_that_share_are_read(rt: HostRuntime) {
+    for (words, want) in [
+        ([SYNC, "nodes=127.0.0.1:1", "id=0"], sharing(0, &[1])),
+        (
+            ["id=4294967295", "nodes=127.0.0.1:2,127.0.0.1:1", SYNC],
+            sharing(u32::MAX, &[2, 1]),
+        ),
+        (
+            ["nodes=127.0.0.1:3,127.0.0.1:3", "id=0007", SYNC],
+            sharing(7, &[3, 3]),
+        ),
+        (
+            [SIXTEEN, SYNC, "id=1"],
+            sharing(1, &[1, 2, 3, 4, 5, 6, 7, 8, 9, 10, 11, 12, 13, 14, 15, 16]),
+        ),
+    ] {
+        let [first, second, third] = words;
+        let words = ["serve", ZEROS, UDP, first, second, third];
+        assert_eq!(rt; read_words(&words), want);
+    }
+}
+
+#[test]
+fn sharing_takes_all_three_settings(rt: HostRuntime) {
+    for words in [
+        ["serve", ZEROS, UDP, SYNC].as_slice(),
+        &["serve", ZEROS, UDP, NODE],
+        &["serve", ZEROS, UDP, "id=1"],
+        &["serve", ZEROS, UDP, SYNC, NODE],
+        &["serve", ZEROS, UDP, "id=1", SYNC],
+        &["serve", ZEROS, UDP, NODE, "id=1"],
+        &["serve", ZEROS, SYNC, NODE, "id=1"],
+        &["serve", UDP, SYNC, NODE, "id=1"],
+    ] {
+        assert_eq!(rt;
+            read_words(words),
+            Err(WordsFault::At(words.len() as u32)),
+            "{words:?}"
+        );
+    }
+}
+
+#[test]
+fn settings_of_sharing_that_can_not_stand(rt: HostRuntime) {
+    for word in [
+        "sync=",
+        "sync=127.0.0.1:0",
+        "sync=127.0.0.1:7000,127.0.0.1:7001",
+        "nodes=",
+        "nodes=,",
+        "nodes=127.0.0.1",
+        "nodes=127.0.0.1:1,",
+        "nodes=,127.0.0.1:1",
+        "nodes=127.0.0.1:1,,127.0.0.1:2",
+        "nodes=127.0.0.1:1, 127.0.0.1:2",
+        "nodes=127.0.0.1:1;127.0.0.1:2",
+        "nodes=127.0.0.1:1,127.0.0.1:65536",
+        SEVENTEEN,
+        "id=",
+        "id=-1",
+        "id=4294967296",
+        "node=127.0.0.1:1",
+    ] {
+        assert_eq!(rt;
+            read_words(&["serve", ZEROS, UDP, word]),
+            Err(WordsFault::At(3)),
+            "{word}"
+        );
+    }
+    for word in [SYNC, NODE, "id=1"] {
+        assert_eq!(rt;
+            read_words(&["serve", ZEROS, UDP, word, word]),
+            Err(WordsFault::At(4)),
+            "{word}"
+        );
+        assert_eq!(rt;
+            read_words(&["replay", word]),
+            Err(WordsFault::At(1)),
             "{word}"
         );
     }

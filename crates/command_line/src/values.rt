@@ -2,9 +2,11 @@
 
 ghost use Rattle.std.specs.Prelude.{◌≡◌, ◌≤◌, IfSome};
 ghost use Rattle.command_line.specs.Values.{endpoint_from, endpoint_value, mode_value};
-ghost use Rattle.command_line.specs.Values.{number_value, secret_value, switch_value};
+ghost use Rattle.command_line.specs.Values.{nodes_value, number_value, secret_value};
+ghost use Rattle.command_line.specs.Values.{switch_value};
 
 use ot_base::{Endpoint, Mode, Secret};
+use ot_io::NODES;
 
 /// The number that 1 to 20 decimal digits write, with leading zeros or without, where it is one of
 /// these.
@@ -84,4 +86,19 @@ fn read_parts(address: &str, port: &str) -> Option<Endpoint>
     let addr = trace_text::read_address(address.as_bytes()).ok()?;
     let port = read_small(port, 1, 65_535)? as u16;
     Some(Endpoint { addr, port })
+}
+
+/// The endpoints of other nodes, from 1 to 16, with `,` between. They stand in this order from the
+/// first place on, and the places behind them are empty.
+pub fn read_nodes(text: &str) -> Option<[Option<Endpoint>; NODES]>
+    ensures { result ≡ nodes_value text.now }
+{
+    let mut nodes = [None; NODES];
+    for (i, endpoint) in text.split(',').enumerate() {
+        if i == NODES {
+            return None;
+        }
+        nodes[i] = Some(read_endpoint(endpoint)?);
+    }
+    Some(nodes)
 }

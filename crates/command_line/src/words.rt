@@ -4,13 +4,14 @@ ghost use Rattle.std.specs.Prelude.{◌≡◌, ◌≤◌, ◌+◌, IfOk, length,
 ghost use Rattle.std.specs.Result.{result_map_both};
 ghost use Rattle.command_line.specs.Words.{MayRun, command_of, drill_command, number_first};
 ghost use Rattle.command_line.specs.Words.{replay_command, replay_of, serve_command, server_of};
+ghost use Rattle.command_line.specs.Words.{shares_in_part, sync_of};
 
 use crate::settings::{Asked, Given, place, read_settings};
 use crate::values::read_number;
 use load_model::DrillSettings;
 use offline::Offline;
 use ot_base::{Limits, Secret};
-use ot_io::{ReplaySettings, ServeSettings};
+use ot_io::{ReplaySettings, ServeSettings, SyncSettings};
 
 /// What the words ask for.
 #[derive(Clone, Copy, Debug, PartialEq, Eq)]
@@ -37,7 +38,8 @@ pub enum WordsFault {
 /// - `replay`: answers a recorded trace.
 /// - `drill seed count workers`: runs a load of `count` requests, 0 to 1000000, that are drawn from
 ///   `seed`, 0 to 2^64 - 1, and made by `workers` workers at once, 1 to 64.
-/// - `serve`: runs a server. It needs the setting `secret`, and `udp` or `http`.
+/// - `serve`: runs a server. It needs the setting `secret`, and `udp` or `http`; and all of `sync`,
+///   `nodes` and `id` or none of them.
 ///
 /// | name | value | without it | commands |
 /// |---|---|---|---|
@@ -51,6 +53,9 @@ pub enum WordsFault {
 /// | `udp` | an endpoint: where datagrams are received | nowhere | serve |
 /// | `http` | an endpoint: where connections are accepted | nowhere | serve |
 /// | `workers` | 1 to 64: how many each of the two has | 2 | serve |
+/// | `sync` | an endpoint: where the node hears others and tells them | nowhere | serve |
+/// | `nodes` | 1 to 16 endpoints with `,` between: the others' `sync` | none | serve |
+/// | `id` | 0 to 4294967295: the node's own number | none | serve |
 ///
 /// A number is 1 to 20 decimal digits, with leading zeros or without. An endpoint is an IPv4
 /// address, `:` and a port from 1 to 65535.
@@ -154,13 +159,36 @@ fn replay_of(given: Given) -> ReplaySettings
 fn server_of(given: Given) -> Option<ServeSettings>
     ensures { result ≡ server_of given }
 {
-    if given.secret.is_none() || (given.udp.is_none() && given.http.is_none()) {
+    if given.secret.is_none()
+        || (given.udp.is_none() && given.http.is_none())
+        || shares_in_part(given)
+    {
         return None;
     }
     Some(ServeSettings {
         replay: replay_of(given),
         udp: given.udp,
         http: given.http,
+        sync: sync_of(given),
         workers: given.workers.unwrap_or(2),
+    })
+}
+
+/// Whether some of the settings of sharing are given, but not all.
+fn shares_in_part(given: Given) -> bool
+    ensures { result ≡ shares_in_part given }
+{
+    sync_of(given).is_none()
+        && (given.sync.is_some() || given.nodes.is_some() || given.id.is_some())
+}
+
+/// With whom a server shares, where all three settings of that are given.
+fn sync_of(given: Given) -> Option<SyncSettings>
+    ensures { result ≡ sync_of given }
+{
+    Some(SyncSettings {
+        at: given.sync?,
+        own: given.id?,
+        nodes: given.nodes?,
     })
 }

@@ -10,7 +10,7 @@ use Rattle.ot_base.proofs.SameLemmas.{same_hash_decides}
 use Rattle.ot_base.specs.declared.address.Endpoint.{Endpoint}
 use Rattle.ot_base.specs.declared.hash.InfoHash.{InfoHash}
 use Rattle.ot_base.specs.declared.minute.Minute.{Minute}
-use Rattle.tracker_model.specs.Calls.{IsPeer, IsReport, IsWellFormed, is_request}
+use Rattle.tracker_model.specs.Calls.{IsPeer, IsReport, IsWellFormed, names_torrent}
 use Rattle.tracker_model.specs.Entries.{time_of}
 use Rattle.tracker_model.specs.Known.{known}
 use Rattle.tracker_model.specs.declared.call.Call.{Call}
@@ -167,5 +167,5 @@ call_formed r =
       | suc kind ↦ ((λ completed. let e : (kind == 0) ≡ true = completed in let p : nat_lt kind 3 ≡ true = grind (arith, nat_tests) in p), (let few : 50 ≤ 200 = omega arith in few), peer)
     ]
 
-pub call_requests : (r : Request) → is_request (call_of r) ≡ true
-call_requests r = elim (r.first / 64 % 8) as (λ kind. is_request (call_by kind (torrent_hash (r.first % 64)) (peer_at (peer_number r))) ≡ true) [ zero ↦ refl | suc kind ↦ refl ]
+pub call_names_torrent : (r : Request) → names_torrent (call_of r) ≡ true
+call_names_torrent r = elim (r.first / 64 % 8) as (λ kind. names_torrent (call_by kind (torrent_hash (r.first % 64)) (peer_at (peer_number r))) ≡ true) [ zero ↦ refl | suc kind ↦ refl ]

@@ -1,6 +1,6 @@
 //! The output line of a full scrape, which is added bucket by bucket.
 
-ghost use Rattle.std.specs.Prelude.{◌≡◌, ◌++◌, Err, List, OnErr, OnOk, false, ℕ};
+ghost use Rattle.std.specs.Prelude.{◌≡◌, ◌++◌, Err, List, OnErr, OnOk, ℕ};
 ghost use Rattle.lines.specs.Replies.{Adds, Loses};
 ghost use Rattle.lines.specs.Responses.{Responds};
 ghost use Rattle.lines.specs.Streams.{IsLaterSink};
@@ -29,7 +29,6 @@ pub fn add_full_line<O: Sink>(
     out: &mut O,
     room: &mut [u8; OUTPUT_ROOM],
 ) -> Result<(), Trouble<Fault>>
-    requires alone { shelf.old.settings.sync ≡ false }
     ensures settings { shelf.new.settings ≡ shelf.old.settings }
     ensures bits { shelf.new.bits ≡ shelf.old.bits }
     ensures responds { (line : List ℕ) →
@@ -72,7 +71,6 @@ fn add_parts<O: Sink>(
     out: &mut O,
     room: &mut [u8; OUTPUT_ROOM],
 ) -> Result<(), Trouble<Fault>>
-    requires alone { shelf.old.settings.sync ≡ false }
     ensures settings { shelf.new.settings ≡ shelf.old.settings }
     ensures bits { shelf.new.bits ≡ shelf.old.bits }
     ensures added { AddsParts minute shelf.old shelf.new

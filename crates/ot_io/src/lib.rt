@@ -42,7 +42,7 @@ pub use mem_source::MemSource;
 pub use mem_wire::{Incoming, MemWire, Outgoing, WireScript};
 pub use message::report;
 pub use outside::{Made, Outside};
-pub use settings::{ReplaySettings, ServeSettings};
+pub use settings::{NODES, ReplaySettings, ServeSettings, SyncSettings};
 pub use sink::{Sink, Wrote, send_all};
 pub use source::{Piece, Source};
 pub use status::{LineFault, Status};

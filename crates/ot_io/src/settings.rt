@@ -29,6 +29,22 @@ pub struct ServeSettings {
     pub udp: Option<Endpoint>,
     /// Where connections are accepted, if anywhere.
     pub http: Option<Endpoint>,
-    /// How many workers each of the two has, from 1 to 64.
+    /// With which other nodes it shares what it knows of peers, if with any.
+    pub sync: Option<SyncSettings>,
+    /// How many workers each of the first two has, from 1 to 64.
     pub workers: u32,
+}
+
+/// How many other nodes a node shares with at most.
+pub const NODES: usize = 16;
+
+/// With whom a node shares what it knows of peers, and where.
+#[derive(Clone, Copy, Debug, PartialEq, Eq)]
+pub struct SyncSettings {
+    /// Where it receives what the others tell, and from where it tells them.
+    pub at: Endpoint,
+    /// Its own number, by which it knows what it has told itself.
+    pub own: u32,
+    /// Where the others are, in the order in which they are told. A place may be empty.
+    pub nodes: [Option<Endpoint>; NODES],
 }

@@ -4,7 +4,7 @@ use crate::clock::steady_seconds;
 use std::rt::Clock;
 
 /// How many calls come between two looks at the clock.
-const CALLS: u32 = 63;
+const CALLS: u32 = 15;
 
 /// Says when a wire or a listener is to answer once that none waits, though one may. Who serves
 /// looks only then whether it is to end, and where clients ask all the time no other moment comes.
@@ -23,7 +23,7 @@ impl Breather {
     }
 
     /// Whether this call is to be answered so: at most one in a second is. The clock is read at
-    /// every 64th call, and only then.
+    /// every 16th call, and only then.
     pub fn is_due<R: Clock>(&mut self, rt: &R) -> bool {
         if self.calls < CALLS {
             self.calls += 1;

@@ -148,11 +148,11 @@ fn a_breath_is_due_once_a_second(rt: HostRuntime) {
     let mut breather = Breather::new();
     for (second, want) in [
         (0, (0, 0)),
-        (7, (1, 64)),
+        (7, (1, 16)),
         (7, (0, 0)),
-        (8, (1, 64)),
+        (8, (1, 16)),
         (6, (0, 0)),
-        (9, (1, 64)),
+        (9, (1, 16)),
     ] {
         assert_eq!(rt; dues(&mut breather, second), want, "{second}");
     }

@@ -1,6 +1,6 @@
 //! What is done where the cleaner goes over the buckets.
 
-ghost use Rattle.std.specs.Prelude.{◌≡◌, false};
+ghost use Rattle.std.specs.Prelude.{◌≡◌};
 ghost use Rattle.tracker_model.specs.Placed.{on_each_bucket};
 ghost use Rattle.tracker_model.specs.declared.call.Call.TheVariants.{Clean};
 ghost use Rattle.request_handler.specs.Cleaning.{held_sum};
@@ -12,7 +12,6 @@ use tracker_model::Tracker;
 
 /// Cleans all buckets at a minute, from bucket 0 on, and tells how many peers are left in all.
 pub fn clean_all<T: Tracker>(tracker: &mut T, minute: Minute) -> u128
-    requires alone { (T.settings tracker.old).sync ≡ false }
     ensures settings { T.settings tracker.new ≡ T.settings tracker.old }
     ensures bits { T.bits tracker.new ≡ T.bits tracker.old }
     ensures cleaned { Gives T.made minute tracker.old (on_each_bucket (T.bits tracker.old) Clean)

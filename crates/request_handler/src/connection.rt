@@ -1,6 +1,6 @@
 //! What is done for a connection.
 
-ghost use Rattle.std.specs.Prelude.{◌≡◌, false, option_to_list, IfOk, List, OnErr, Some, map};
+ghost use Rattle.std.specs.Prelude.{◌≡◌, option_to_list, IfOk, List, OnErr, Some, map};
 ghost use Rattle.std.specs.List.{AllByRecursion};
 ghost use Rattle.std.specs.List.Sorted.{IsStrictlySortedBy};
 ghost use Rattle.ot_base.specs.Order.{hash_cmp};
@@ -38,7 +38,6 @@ pub fn serve<T: Tracker>(
     plan: &ConnectionPlan,
     words: &[u32; 200],
 ) -> Result<Option<Bytes>, AllocError>
-    requires alone { (T.settings tracker.old).sync ≡ false }
     requires formed { AllByRecursion IsWellFormed (connection_calls plan.now) }
     requires complete { IsCompleteConnection plan.now }
     requires bounded { IsBoundedConnection plan.now }
@@ -67,7 +66,6 @@ fn answer<T: Tracker>(
     plan: &HttpPlan,
     words: &[u32; 200],
 ) -> Result<(Code, Bytes), AllocError>
-    requires alone { (T.settings tracker.old).sync ≡ false }
     requires formed { AllByRecursion IsWellFormed (http_calls plan.now) }
     requires complete { IsCompleteHttp plan.now }
     requires ascending { ScrapesInOrder plan.now }
@@ -98,7 +96,6 @@ fn announce<T: Tracker>(
     call: Call,
     words: &[u32; 200],
 ) -> Result<Bytes, AllocError>
-    requires alone { (T.settings tracker.old).sync ≡ false }
     requires formed { IsWellFormed call }
     requires report { IsReport call }
     ensures settings { T.settings tracker.new ≡ T.settings tracker.old }
@@ -153,7 +150,6 @@ fn scrape<T: Tracker>(
     minute: Minute,
     hashes: &HashList,
 ) -> Result<Bytes, AllocError>
-    requires alone { (T.settings tracker.old).sync ≡ false }
     requires ascending { IsStrictlySortedBy hash_cmp hashes.now }
     ensures settings { T.settings tracker.new ≡ T.settings tracker.old }
     ensures bits { T.bits tracker.new ≡ T.bits tracker.old }
@@ -176,7 +172,6 @@ fn known_rows<T: Tracker>(
     minute: Minute,
     hashes: &HashList,
 ) -> Result<Rows, AllocError>
-    requires alone { (T.settings tracker.old).sync ≡ false }
     ensures settings { T.settings tracker.new ≡ T.settings tracker.old }
     ensures bits { T.bits tracker.new ≡ T.bits tracker.old }
     ensures found { IfOk result (λ rows. Gives T.made minute tracker.old
@@ -196,7 +191,6 @@ fn known_rows<T: Tracker>(
 
 /// The counts of a torrent, where it is known.
 fn known_row<T: Tracker>(tracker: &mut T, minute: Minute, hash: &InfoHash) -> Option<Row>
-    requires alone { (T.settings tracker.old).sync ≡ false }
     ensures settings { T.settings tracker.new ≡ T.settings tracker.old }
     ensures bits { T.bits tracker.new ≡ T.bits tracker.old }
     ensures scraped { (answer : Answer)

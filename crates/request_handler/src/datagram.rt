@@ -1,6 +1,6 @@
 //! What is done for a datagram.
 
-ghost use Rattle.std.specs.Prelude.{◌≡◌, ◌≤◌, false, length, List, map, take};
+ghost use Rattle.std.specs.Prelude.{◌≡◌, ◌≤◌, length, List, map, take};
 ghost use Rattle.std.specs.List.{AllByRecursion};
 ghost use Rattle.tracker_core.specs.UdpPlan.{IsComplete, IsReport, calls_of};
 ghost use Rattle.tracker_core.specs.UdpText.{all_counts};
@@ -39,7 +39,6 @@ pub fn carry_out<T: Tracker>(
     words: &[u32; 200],
     reply: &mut [u8; REPLY_ROOM],
 ) -> Outcome
-    requires alone { (T.settings tracker.old).sync ≡ false }
     requires formed { AllByRecursion IsWellFormed (calls_of plan.now) }
     requires complete { IsComplete plan.now }
     ensures settings { T.settings tracker.new ≡ T.settings tracker.old }
@@ -78,7 +77,6 @@ fn announce<T: Tracker>(
     words: &[u32; 200],
     reply: &mut [u8; REPLY_ROOM],
 ) -> Outcome
-    requires alone { (T.settings tracker.old).sync ≡ false }
     requires formed { IsWellFormed call }
     requires report { IsReport call }
     ensures settings { T.settings tracker.new ≡ T.settings tracker.old }
@@ -122,7 +120,6 @@ fn scrape_all<T: Tracker>(
     hashes: &Hashes,
     reply: &mut [u8; REPLY_ROOM],
 ) -> usize
-    requires alone { (T.settings tracker.old).sync ≡ false }
     requires some { 1 ≤ length hashes.now }
     ensures settings { T.settings tracker.new ≡ T.settings tracker.old }
     ensures bits { T.bits tracker.new ≡ T.bits tracker.old }
@@ -139,7 +136,6 @@ fn scrape_all<T: Tracker>(
 
 /// The counts of the torrents, in order.
 fn counts_of<T: Tracker>(tracker: &mut T, minute: Minute, hashes: &Hashes) -> CountList
-    requires alone { (T.settings tracker.old).sync ≡ false }
     ensures settings { T.settings tracker.new ≡ T.settings tracker.old }
     ensures bits { T.bits tracker.new ≡ T.bits tracker.old }
     ensures many { length result ≡ length hashes.now }

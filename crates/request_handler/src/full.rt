@@ -41,7 +41,6 @@ pub fn full_part<T: Tracker>(
     minute: Minute,
 ) -> Result<Bytes, AllocError>
     requires within { bucket < 2 ^ T.bits tracker.old }
-    requires alone { (T.settings tracker.old).sync ≡ false }
     ensures settings { T.settings tracker.new ≡ T.settings tracker.old }
     ensures bits { T.bits tracker.new ≡ T.bits tracker.old }
     ensures told { IfOk result (λ text. (rows : List Row)

@@ -61,7 +61,6 @@ pub fn serve_connection<R: Wait, N: Conn, C: Clock>(
     scratch: &mut Scratch,
 ) -> ConnEnd
     requires pass { pass.old.shards ≡ shards.now }
-    requires alone { shards.now.settings.sync ≡ false }
     ensures served { Serves (record {
       access = option_copied access.entry;
       full = full;
@@ -102,7 +101,6 @@ fn answer<R: Wait, N: Conn>(
     scratch: &mut Scratch,
 ) -> ConnEnd
     requires pass { pass.old.shards ≡ shards.now }
-    requires alone { shards.now.settings.sync ≡ false }
     requires formed { AllByRecursion IsWellFormed (connection_calls plan.now) }
     requires complete { IsCompleteConnection plan.now }
     ensures ended { EndsConnection minute pass.old pass.new plan.now
@@ -150,7 +148,6 @@ fn make_reply<R: Wait>(
 ) -> Result<Bytes, AllocError>
     requires whole { plan.now ≢ More }
     requires pass { pass.old.shards ≡ shards.now }
-    requires alone { shards.now.settings.sync ≡ false }
     requires formed { AllByRecursion IsWellFormed (connection_calls plan.now) }
     requires complete { IsCompleteConnection plan.now }
     requires bounded { IsBoundedConnection plan.now }
@@ -188,7 +185,6 @@ fn tell_torrents<R: Wait, N: Conn>(
     minute: Minute,
 ) -> ConnEnd
     requires pass { pass.old.shards ≡ shards.now }
-    requires alone { shards.now.settings.sync ≡ false }
     ensures ended { EndsConnection minute pass.old pass.new (Planned Full)
         (N.written conn.old) (N.written conn.new) result }
     ensures pass { pass.new ≡ record pass.old { seen = pass.new.seen } }

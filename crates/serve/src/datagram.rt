@@ -54,7 +54,6 @@ pub fn serve_datagram<R: Wait, W: Wire, C: Clock>(
     scratch: &mut Scratch,
 ) -> Served
     requires pass { pass.old.shards ≡ shards.now }
-    requires alone { shards.now.settings.sync ≡ false }
     ensures served { Serves (record {
       secret = secret.now;
       access = option_copied access.entry;
@@ -97,7 +96,6 @@ fn carry<R: Wait>(
     reply: &mut [u8; REPLY_ROOM],
 ) -> Outcome
     requires pass { pass.old.shards ≡ shards.now }
-    requires alone { shards.now.settings.sync ≡ false }
     requires formed { AllByRecursion IsWellFormed (calls_of plan.now) }
     requires complete { IsComplete plan.now }
     ensures carried { Carries minute plan.now pass.old pass.new reply.new result }

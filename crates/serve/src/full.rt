@@ -40,7 +40,6 @@ pub(crate) fn tell_all<T: Tracker, K: Sink>(
     minute: Minute,
     sink: &mut K,
 ) -> Result<(), Stop>
-    requires alone { (T.settings tracker.old).sync ≡ false }
     ensures told { TellsAll T.made minute (T.bits tracker.old) tracker.old tracker.new
         (K.written sink.old) (K.written sink.new) result }
     ensures faults { StopsAreCounted (K.faults sink.old) (K.faults sink.new) result }
@@ -69,7 +68,6 @@ fn tell_parts<T: Tracker, K: Sink>(
     minute: Minute,
     sink: &mut K,
 ) -> Result<(), Stop>
-    requires alone { (T.settings tracker.old).sync ≡ false }
     ensures told { TellsParts T.made minute (T.bits tracker.old) tracker.old tracker.new
         (K.written sink.old) (K.written sink.new) result }
     ensures faults { StopsAreCounted (K.faults sink.old) (K.faults sink.new) result }
@@ -90,7 +88,6 @@ fn tell_part<T: Tracker, K: Sink>(
     sink: &mut K,
 ) -> Result<(), Stop>
     requires within { bucket < 2 ^ T.bits tracker.old }
-    requires alone { (T.settings tracker.old).sync ≡ false }
     ensures settings { T.settings tracker.new ≡ T.settings tracker.old }
     ensures bits { T.bits tracker.new ≡ T.bits tracker.old }
     ensures told { TellsPart T.made minute tracker.old bucket tracker.new

@@ -28,7 +28,6 @@ pub fn serve_listener<R: Wait, L: Listener, C: Clock>(
     stop: &AtomicBool,
 )
     requires pass { pass.old.shards ≡ shards.now }
-    requires alone { shards.now.settings.sync ≡ false }
     ensures worked { WorkedLinks (option_copied access.entry) full pass.old pass.new
         (L.links listener.old) (L.links listener.new)
         (L.faults listener.old) (L.faults listener.new) }
@@ -63,7 +62,6 @@ fn serve_next<R: Wait, L: Listener, C: Clock>(
     scratch: &mut Scratch,
 ) -> bool
     requires pass { pass.old.shards ≡ shards.now }
-    requires alone { shards.now.settings.sync ≡ false }
     ensures worked { WorkedLinks (option_copied access.entry) full pass.old pass.new
         (L.links listener.old) (L.links listener.new)
         (L.faults listener.old) (L.faults listener.new) }

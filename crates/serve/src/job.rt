@@ -12,6 +12,7 @@ use shards::{Pass, Shards};
 use std::alloc::Global;
 use std::sync::Wait;
 use std::sync::atomic::AtomicBool;
+use upkeep::{keep_clean, keep_receiving, keep_sending, nodes_in};
 
 /// What one thread of a server does, with all that it has for itself. It has the types of the wire,
 /// the listener and the clock as parameters, so that it can be sent to a thread.
@@ -31,11 +32,29 @@ pub enum Job<W, L, C> {
         clock: C,
         scratch: Scratch,
     },
+    /// One that cleans the buckets.
+    Cleaner {
+        pass: Pass,
+        clock: C,
+    },
+    /// One that tells other nodes what the buckets learnt.
+    Sender {
+        pass: Pass,
+        wire: W,
+        clock: C,
+    },
+    /// One that learns what other nodes tell.
+    Receiver {
+        pass: Pass,
+        wire: W,
+        clock: C,
+    },
 }
 
 impl<W: Wire, L: Listener, C: Clock> Job<W, L, C> {
     /// Does the job from its start to its end, which comes once the flag is up: a worker serves
-    /// what waits, and ends where nothing does or the outside fails. The pass keeps its number.
+    /// what waits, and ends where nothing does or the outside fails, and so does the receiver; the
+    /// cleaner and the sender go over all buckets once more. The pass keeps its number.
     #[tactic(auto, unfolding(crate::specs::Jobs::IsReady, crate::specs::Jobs::Ran))]
     pub fn run<R: Wait>(
         &mut self,
@@ -46,9 +65,9 @@ impl<W: Wire, L: Listener, C: Clock> Job<W, L, C> {
         access: Option<&AccessList>,
         stop: &AtomicBool,
     )
-        requires { IsReady shards.now self.old }
-        ensures { Ran W.traffic W.faults L.links L.faults settings.now.replay.secret
-            (option_copied access.entry) settings.now.replay.full self.old self.new }
+        requires { IsReady shards.now settings.now.sync self.old }
+        ensures { Ran W.traffic W.faults L.links L.faults settings.now
+            (option_copied access.entry) self.old self.new }
     {
         match self {
             Job::Udp {
@@ -84,6 +103,39 @@ impl<W: Wire, L: Listener, C: Clock> Job<W, L, C> {
                 scratch,
                 stop,
             ),
+            Job::Cleaner { pass, clock } => keep_clean(rt, shards, pass, clock, stop),
+            Job::Sender { pass, wire, clock } => match &settings.sync {
+                Some(sync) => {
+                    let nodes = nodes_in(&sync.nodes);
+                    keep_sending(
+                        rt,
+                        shards,
+                        pass,
+                        wire,
+                        clock,
+                        sync.own,
+                        nodes.as_slice(),
+                        stop,
+                    )
+                }
+                None => unreachable!(),
+            },
+            Job::Receiver { pass, wire, clock } => match &settings.sync {
+                Some(sync) => {
+                    let nodes = nodes_in(&sync.nodes);
+                    keep_receiving(
+                        rt,
+                        shards,
+                        pass,
+                        wire,
+                        clock,
+                        sync.own,
+                        nodes.as_slice(),
+                        stop,
+                    )
+                }
+                None => unreachable!(),
+            },
         }
     }
 }

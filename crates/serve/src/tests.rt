@@ -46,7 +46,6 @@ const LIMITS: Limits = Limits {
 
 /// Buckets that nobody has called, and the pass that they begin with.
 fn shards(alloc: Global) -> Result<(Shards, Pass), AllocError>
-    ensures alone { IfOk result (λ r. r.0.settings.sync ≡ false) }
     ensures pass { IfOk result (λ r. r.1 ≡ first_pass r.0) }
 {
     Shards::new(alloc, 2, LIMITS, false, 1)

@@ -29,7 +29,6 @@ pub fn serve_wire<R: Wait, W: Wire, C: Clock>(
     stop: &AtomicBool,
 )
     requires pass { pass.old.shards ≡ shards.now }
-    requires alone { shards.now.settings.sync ≡ false }
     ensures worked { Worked secret.now (option_copied access.entry) pass.old pass.new
         (W.traffic wire.old) (W.traffic wire.new) (W.faults wire.old) (W.faults wire.new) }
     ensures rests { Rests (W.traffic wire.new) (W.faults wire.old) (W.faults wire.new) }
@@ -59,7 +58,6 @@ fn serve_next<R: Wait, W: Wire, C: Clock>(
     scratch: &mut Scratch,
 ) -> bool
     requires pass { pass.old.shards ≡ shards.now }
-    requires alone { shards.now.settings.sync ≡ false }
     ensures worked { Worked secret.now (option_copied access.entry) pass.old pass.new
         (W.traffic wire.old) (W.traffic wire.new) (W.faults wire.old) (W.faults wire.new) }
     ensures rests { result ≡ false →

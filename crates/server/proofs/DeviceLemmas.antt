@@ -4,7 +4,7 @@ use Rattle.std.specs.Prelude.{Option, Some, None}
 use Rattle.std.proofs.lemmas.List.{length-append, length-map, map-append}
 use Rattle.ot_io.specs.Lending.{AreOut, Lends, Lent}
 use Rattle.ot_io.proofs.Runs.{Lends-trans}
-use Rattle.server.specs.Devices.{IsShut}
+use Rattle.server.specs.Devices.{IsShut, TakesBack}
 
 -- some are out still
 pub still_out : {T : Type 0} (a b : Option (Lent T)) (tales : List T) (m n : ℕ) → Lends a b 0 tales → AreOut a m → length tales + n ≤ m → AreOut b n
@@ -32,12 +32,23 @@ shut_after a b b' c c' count back made same came still many =
     let of : count + 0 ≡ length back = omega arith in
     subst (λ x. IsShut a x) (sym still) (record { back = back; lends = subst (λ n. Lends a c n back) of all })
 
--- none was made
-pub shut_none : {T : Type 0} (a b c d : Option (Lent T)) → b ≡ a → Lends b c 0 [] → d ≡ c → IsShut a d
-shut_none a b c d same none still =
-    subst (λ x. IsShut a x) (sym still) (record { back = []; lends = subst (λ x. Lends x c 0 []) same none })
+-- so many were made, whatever was done of other kinds then
+pub lends_so : {T : Type 0} (a b b' : Option (Lent T)) (m n : ℕ) → Lends a b m [] → b' ≡ b → m ≡ n → Lends a b' n []
+lends_so a b b' m n made still many = subst (λ x. Lends a x n []) (sym still) (subst (λ k. Lends a b k []) many made)
 
--- the same, where something was done of other kinds before
-pub shut_behind : {T : Type 0} (a a' b b' c c' : Option (Lent T)) (count : ℕ) (back : List T) → a' ≡ a → Lends a' b count [] → b' ≡ b → Lends b' c 0 back → c' ≡ c → length back ≡ count → IsShut a c'
-shut_behind a a' b b' c c' count back before made same came still many =
-    subst (λ x. IsShut x c') before (shut_after a' b b' c c' count back made same came still many)
+-- so many more were made
+pub lends_more : {T : Type 0} (a b b' c c' : Option (Lent T)) (m n k : ℕ) → Lends a b m [] → b' ≡ b → Lends b' c n [] → c' ≡ c → m + n ≡ k → Lends a c' k []
+lends_more a b b' c c' m n k made same more still many =
+    lends_so a c c' (m + n) k (Lends-trans a b c m n [] [] made (subst (λ x. Lends x c n []) same more)) still many
+
+-- so many came back, whatever was done of other kinds before and then
+pub took : {T : Type 0} (a a' b b' : Option (Lent T)) (n : ℕ) (back : List T) → a' ≡ a → Lends a' b 0 back → b' ≡ b → length back ≡ n → TakesBack n a b'
+took a a' b b' n back before came still many = record { back = back; many = many; lends = subst (λ x. Lends a x 0 back) (sym still) (subst (λ x. Lends x b 0 back) before came) }
+
+-- some came back, and then others
+pub took_both : {T : Type 0} (a b b' c : Option (Lent T)) (m n : ℕ) (xs ys : List T) → Lends a b 0 xs → b' ≡ b → Lends b' c 0 ys → length xs ≡ m → length ys ≡ n → TakesBack (m + n) a c
+took_both a b b' c m n xs ys first same then many many' = record {
+  back = xs ++ ys;
+  many = omega (arith, length-append xs ys, many, many');
+  lends = Lends-trans a b c 0 0 xs ys first (subst (λ x. Lends x c 0 ys) same then);
+}

@@ -1,5 +1,5 @@
 -- How a server's run ends, from what its parts did.
-use Rattle.std.proofs.Common.{◌≡◌, ℕ, ◌+◌, ◌≤◌, List, [], length, map, sym, ap, subst, ◌∙◌, append-nil, inl, inr, ⊎_elim, arith}
+use Rattle.std.proofs.Common.{◌≡◌, ℕ, ◌+◌, ◌≤◌, ◌⊎◌, List, [], ◌++◌, length, map, sym, ap, subst, ◌∙◌, inl, inr, ⊎_elim, arith}
 use Rattle.std.specs.Prelude.{Option, Some, None}
 use Rattle.std.specs.Io.KnownBytes.{Appends, IsAtEnd}
 use Rattle.std.proofs.lemmas.List.{length-map, length-reverse, take_all}
@@ -16,6 +16,7 @@ use Rattle.ot_io.specs.Lending.{Lends, Lent}
 use Rattle.ot_io.specs.Tales.{ListenerTale}
 use Rattle.ot_io.specs.Traffic.{WireTale}
 use Rattle.ot_io.specs.declared.settings.ServeSettings.{ServeSettings}
+use Rattle.ot_io.specs.declared.settings.SyncSettings.{SyncSettings}
 use Rattle.ot_io.specs.declared.status.Status.{Status}
 use Rattle.ot_io.specs.declared.status.Status.TheVariants.{Done, Words, NoMemory, ReadFault, WriteFault, Line, TooLong, TooMuch, Device}
 use Rattle.ot_io.specs.declared.status.Status.TheVariants as status
@@ -23,16 +24,12 @@ use Rattle.serve.specs.declared.job.Job.{Job}
 use Rattle.shards.specs.Shape.{PassShape}
 use Rattle.tracker_model.specs.declared.entry.Entry.{Entry}
 use Rattle.server.specs.Access.{IsListCaused, ListsLine, MayListEnd, RefusesEnd, RefusesListLine, empty_list}
-use Rattle.server.specs.Devices.{IsDeviceCaused, IsShut, device_count}
+use Rattle.server.specs.Devices.{IsDeviceCaused, IsShut, device_count, job_count, sync_count}
 use Rattle.server.specs.Input.{IsInputCaused}
 use Rattle.server.specs.Run.{BeginsWith, Concludes, HasServed, IsServeCaused, RunsServer, ServesTo, Tells, TellsList, WritesFront, ended_as, summary_of}
 use Rattle.server.specs.Teams.{HaveRun, pass_of}
 use Rattle.server.specs.declared.input.InputEnd.{InputEnd}
 use Rattle.server.specs.declared.input.InputEnd.TheVariants.{Ended, Failed}
-
-pub nothing_added : (known : Option (List ℕ)) → Appends known known []
-nothing_added None = tt
-nothing_added (Some xs) = sym (append-nil xs)
 
 -- ---- the passes once all are joined
 
@@ -185,7 +182,7 @@ module _ (settings : ServeSettings) (ends ends' : ℕ) (left : Option (List ℕ)
   -- ---- a run that served
 
   abbrev wires_made : ℕ
-  wires_made = device_count settings.workers settings.udp
+  wires_made = device_count settings.workers settings.udp + sync_count settings.sync
 
   abbrev listeners_made : ℕ
   listeners_made = device_count settings.workers settings.http
@@ -197,10 +194,12 @@ module _ (settings : ServeSettings) (ends ends' : ℕ) (left : Option (List ℕ)
       histories = has.histories;
       wires = has.wires;
       listeners = has.listeners;
+      sync_wires = has.sync_wires;
       wire_count = has.wire_count;
       listener_count = has.listener_count;
+      sync_wire_count = has.sync_wire_count;
       served = has.served;
-      wires_back = subst (λ n. Lends a a' n has.wires) (omega arith) (Lends-trans a a1 a' wires_made 0 [] has.wires made has.wires_back);
+      wires_back = subst (λ n. Lends a a' n (has.wires ++ has.sync_wires)) (omega arith) (Lends-trans a a1 a' wires_made 0 [] (has.wires ++ has.sync_wires) made has.wires_back);
       listeners_back = subst (λ n. Lends b b' n has.listeners) (omega arith) (Lends-trans b b1 b' listeners_made 0 [] has.listeners made' has.listeners_back);
       has_written = has.has_written;
     }
@@ -287,3 +286,11 @@ untouched a = record { back = []; lends = Lends-refl a }
 pub few_devices : (workers : ℕ) (at : Option Endpoint) → workers ≤ 64 → device_count workers at ≤ 64
 few_devices workers None few = omega arith
 few_devices workers (Some at) few = few
+
+pub none_or_two : (sync : Option SyncSettings) (count : ℕ) → count ≡ sync_count sync → (count ≡ 0) ⊎ (count ≡ 2)
+none_or_two None count is = inl is
+none_or_two (Some sync) count is = inr is
+
+pub few_jobs : (workers : ℕ) (udp http : Option Endpoint) (sync : Option SyncSettings) → workers ≤ 64 → job_count (device_count workers udp) (device_count workers http) (sync_count sync) ≤ 1022
+few_jobs workers udp http None few = let a = few_devices workers udp few in let b = few_devices workers http few in omega arith
+few_jobs workers udp http (Some sync) few = let a = few_devices workers udp few in let b = few_devices workers http few in omega arith

@@ -1,5 +1,6 @@
 -- How the access list is read that a server's input begins with.
-use Rattle.std.specs.Prelude.{◌≡◌, ◌≢◌, ℕ, List, [], ◌++◌, codes, Option, Some, None, Result, Ok, Err}
+use Rattle.std.specs.Prelude.{◌≡◌, ◌≢◌, ℕ, List, [], ◌++◌, codes, Option, Some, None}
+use Rattle.std.specs.Prelude.{Result, Ok, Err}
 use Rattle.std.specs.Option.{option_to_list}
 use Rattle.access_list.specs.Access.{Listing, fault_of, hash_named, is_admitted}
 use Rattle.lines.specs.Run.{RunsLines}
@@ -63,7 +64,8 @@ list_status ending.ReadFault = status.ReadFault
 list_status ending.WriteFault = status.NoMemory
 list_status ending.NoMemory = status.NoMemory
 
--- The whole list was read, and admits what its lines say; or there is none, and the status says why.
+-- The whole list was read, and admits what its lines say; or there is none, and the status says
+-- why.
 abbrev pub IsListOf : Listing → Ending ListEnd → Result Listing Status → Type 0
 IsListOf read end (Ok list) =
     (n : ℕ) × (end ≡ ending.Refused n Whole)

@@ -1,5 +1,5 @@
 -- A whole run of a server.
-use Rattle.std.specs.Prelude.{◌≡◌, ℕ, ◌≤◌, ◌^◌, ◌⊎◌, List, [], length, take, All}
+use Rattle.std.specs.Prelude.{◌≡◌, ℕ, ◌+◌, ◌≤◌, ◌^◌, ◌⊎◌, List, [], ◌++◌, length, take, All}
 use Rattle.std.specs.Prelude.{Option, None, Some, Ok, Err}
 use Rattle.std.specs.Io.KnownBytes.{Appends, IsAtEnd}
 use Rattle.std.specs.List.{sum_by}
@@ -21,7 +21,7 @@ use Rattle.tracker_model.specs.Legal.{IsLegalHistory}
 use Rattle.tracker_model.specs.Settings.{AreLimits}
 use Rattle.tracker_model.specs.declared.entry.Entry.{Entry}
 use Rattle.server.specs.Access.{ReadsList}
-use Rattle.server.specs.Devices.{device_count}
+use Rattle.server.specs.Devices.{device_count, sync_count}
 use Rattle.server.specs.Served.{AreServed}
 use Rattle.server.specs.Summary.{summary_line}
 use Rattle.server.specs.declared.input.InputEnd.{InputEnd}
@@ -90,7 +90,7 @@ pub record HasConcluded (shards : ShardsShape) (written written' : Option (List 
   pub told : Tells written written' last.seen status
 
 -- A server served by this access list, and has written so of the summary of its histories. So many
--- wires and listeners were made, and the workers' came back in the order of their numbers.
+-- wires and listeners were made, and they came back in the order of their jobs.
 pub record HasServed (settings : ServeSettings) (access : Option Listing)
     (wires_made listeners_made : ℕ) (wires_lent wires_lent' : Option (Lent WireTale))
     (listeners_lent listeners_lent' : Option (Lent ListenerTale))
@@ -98,10 +98,12 @@ pub record HasServed (settings : ServeSettings) (access : Option Listing)
   pub histories : List (List Entry)
   pub wires : List WireTale
   pub listeners : List ListenerTale
+  pub sync_wires : List WireTale
   pub wire_count : length wires ≡ device_count settings.workers settings.udp
   pub listener_count : length listeners ≡ device_count settings.workers settings.http
-  pub served : AreServed settings access wires listeners histories
-  pub wires_back : Lends wires_lent wires_lent' wires_made wires
+  pub sync_wire_count : length sync_wires ≡ sync_count settings.sync
+  pub served : AreServed settings access wires listeners sync_wires histories
+  pub wires_back : Lends wires_lent wires_lent' wires_made (wires ++ sync_wires)
   pub listeners_back : Lends listeners_lent listeners_lent' listeners_made listeners
   pub has_written : HasWritten histories
 
@@ -146,7 +148,8 @@ module _ (settings : ServeSettings) (ends ends' : ℕ) (left : Option (List ℕ)
   abbrev pub ServesFrom : Status → Type 0
   ServesFrom status =
       (access : Option Listing) × BeginsWith ends ends' settings.replay.access left access
-      × ServesTo settings access (device_count settings.workers settings.udp)
+      × ServesTo settings access
+      (device_count settings.workers settings.udp + sync_count settings.sync)
       (device_count settings.workers settings.http) wires_lent wires_lent'
       listeners_lent listeners_lent' written written' status
 
@@ -195,9 +198,3 @@ TellsList AtEnd access left left' (status.List line why) =
     (mode : Mode) × (access ≡ Some mode)
     × ReadsList AtEnd mode left left' (Err (status.List line why))
 TellsList AtEnd access left left' Device = Unit {0}
-
--- so many objects of a kind came back
-pub record TakesBack {T : Type 0} (count : ℕ) (lent lent' : Option (Lent T)) : Type 0 where
-  pub back : List T
-  pub many : length back ≡ count
-  pub lends : Lends lent lent' 0 back

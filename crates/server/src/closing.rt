@@ -51,7 +51,8 @@ pub(crate) fn end_jobs<
     requires known { KnowsNumbers pass.old }
     requires workers { All (IsWorker shards.now) jobs.items }
     requires wires_out { AreOut (N.wires_lent outside.old) (length (wires_of jobs.items)) }
-    requires listeners_out { AreOut (N.listeners_lent outside.old) (length (listeners_of jobs.items)) }
+    requires listeners_out { AreOut (N.listeners_lent outside.old)
+        (length (listeners_of jobs.items)) }
     ensures joined { AreJoined (reverse (map pass_of jobs.items)) pass.old pass.new }
     ensures known { KnowsNumbers pass.new }
     ensures wires { Lends (N.wires_lent outside.old) (N.wires_lent outside.new) 0
@@ -79,7 +80,8 @@ fn end_job<W: Wire + Drop, L: Listener + Drop, C: Clock + Drop, N: Outside<W = W
     requires first { pass.old.caller ≡ 0 }
     requires worker { IsWorker shards.now job }
     requires wires_out { AreOut (N.wires_lent outside.old) (length (wires_of (job ∷ []))) }
-    requires listeners_out { AreOut (N.listeners_lent outside.old) (length (listeners_of (job ∷ []))) }
+    requires listeners_out { AreOut (N.listeners_lent outside.old)
+        (length (listeners_of (job ∷ []))) }
     ensures joined { AreJoined (pass_of job ∷ []) pass.old pass.new }
     ensures known { KnowsNumbers pass.new }
     ensures wires { Lends (N.wires_lent outside.old) (N.wires_lent outside.new) 0
@@ -108,6 +110,23 @@ fn end_job<W: Wire + Drop, L: Listener + Drop, C: Clock + Drop, N: Outside<W = W
         } => {
             join_one(shards, pass, other);
             outside.listener_back(listener);
+        }
+        Job::Cleaner {
+            pass: other,
+            clock: _clock,
+        } => join_one(shards, pass, other),
+        Job::Sender {
+            pass: other,
+            wire: sync_wire,
+            clock: _clock,
+        }
+        | Job::Receiver {
+            pass: other,
+            wire: sync_wire,
+            clock: _clock,
+        } => {
+            join_one(shards, pass, other);
+            outside.wire_back(sync_wire);
         }
     }
 }

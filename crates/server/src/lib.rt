@@ -8,6 +8,7 @@ pub mod devices;
 pub mod input;
 pub mod opening;
 pub mod run;
+pub mod sharing;
 pub mod summary;
 pub mod team;
 #[cfg(test)]

@@ -1,14 +1,15 @@
 //! How the jobs of a server begin.
 
-ghost use Rattle.std.specs.Prelude.{◌≡◌, ◌≤◌, ◌<◌, ◌+◌, [], ◌∷◌, ◌++◌, IfOk, List, length};
+ghost use Rattle.std.specs.Prelude.{◌≡◌, ◌≤◌, ◌<◌, ◌+◌, ◌⊎◌, [], ◌∷◌, IfOk, length};
 ghost use Rattle.std.specs.Prelude.{vec_capacity, vec_len};
 ghost use Rattle.std.specs.Vec.Iter.{into_iter_items};
 ghost use Rattle.tracker_model.specs.Settings.{AreLimits};
-ghost use Rattle.serve.specs.declared.job.Job.{Job};
-ghost use Rattle.server.specs.Opening.{AreJobs, AreLinkJobs, AreWireJobs, IsOpened};
+ghost use Rattle.server.specs.Devices.{job_count};
+ghost use Rattle.server.specs.Opening.{AddsJobs, AreJobs, AreLinkJobs, AreWireJobs, IsOpened};
 
 use crate::devices::Devices;
-use ot_io::ReplaySettings;
+use crate::sharing::{add_cleaner, add_sync_jobs};
+use ot_io::{ReplaySettings, ServeSettings};
 use serve::{Job, Scratch};
 use shards::{Pass, Shards};
 use std::alloc::{AllocError, Global};
@@ -23,91 +24,88 @@ pub(crate) struct Opened<W, L, C> {
     pub(crate) pass: Pass,
     /// That of the job which waits for the input's end, caller 1's. It makes no call either.
     pub(crate) idle: Vec<Pass>,
-    /// Those of the workers at wires, in order.
-    pub(crate) wire_passes: Vec<Pass>,
-    /// Those of the workers at listeners, in order.
-    pub(crate) listener_passes: Vec<Pass>,
-    /// Where the jobs are put.
+    /// Those of the other jobs, in order.
+    pub(crate) passes: Vec<Pass>,
+    /// Where these jobs are put.
     pub(crate) room: Vec<Job<W, L, C>>,
 }
 
-/// Opens shards for so many workers.
+/// Opens shards for so many jobs beside the one that waits for the input's end.
 pub(crate) fn open_shards<W, L, C>(
     alloc: Global,
-    settings: &ReplaySettings,
-    wires: u32,
-    listeners: u32,
+    settings: &ServeSettings,
+    jobs: u32,
 ) -> Result<Opened<W, L, C>, AllocError>
-    requires few_bits { settings.now.bits ≤ 10 }
-    requires limits { AreLimits settings.now.limits }
-    requires few_wires { wires ≤ 64 }
-    requires few_listeners { listeners ≤ 64 }
-    ensures { IfOk result (IsOpened settings.now wires listeners) }
+    requires few_bits { settings.now.replay.bits ≤ 10 }
+    requires limits { AreLimits settings.now.replay.limits }
+    requires few { jobs ≤ 1_022 }
+    ensures { IfOk result (IsOpened settings.now jobs) }
 {
-    let callers = wires + listeners + 2;
-    let (shards, mut pass) = Shards::new(alloc, settings.bits, settings.limits, false, callers)?;
+    let ReplaySettings { bits, limits, .. } = settings.replay;
+    let notes = settings.sync.is_some();
+    let (shards, mut pass) = Shards::new(alloc, bits, limits, notes, 2 + jobs)?;
     let idle = shards.split(alloc, &mut pass, 1)?;
-    let wire_passes = shards.split(alloc, &mut pass, wires)?;
-    let listener_passes = shards.split(alloc, &mut pass, listeners)?;
-    let room = Vec::with_capacity(alloc, (wires + listeners) as usize)?;
+    let passes = shards.split(alloc, &mut pass, jobs)?;
+    let room = Vec::with_capacity(alloc, jobs as usize)?;
     Ok(Opened {
         shards,
         pass,
         idle,
-        wire_passes,
-        listener_passes,
+        passes,
         room,
     })
 }
 
 /// The jobs of these devices, in the room: first a worker for each wire, then one for each
-/// listener.
+/// listener, then the cleaner, and last those that share with other nodes.
 pub(crate) fn new_jobs<W: Drop, L: Drop, C: Drop>(
     room: Vec<Job<W, L, C>>,
     seed: u64,
     devices: Devices<W, L, C>,
-    wire_passes: Vec<Pass>,
-    listener_passes: Vec<Pass>,
+    passes: Vec<Pass>,
 ) -> Vec<Job<W, L, C>>
     requires empty { room.items ≡ [] }
-    requires room { vec_len devices.wires + vec_len devices.listeners ≤ vec_capacity room }
-    requires wire_passes { vec_len wire_passes ≡ vec_len devices.wires }
-    requires listener_passes { vec_len listener_passes ≡ vec_len devices.listeners }
-    requires wire_clocks { vec_len devices.wire_clocks ≡ vec_len devices.wires }
-    requires listener_clocks { vec_len devices.listener_clocks ≡ vec_len devices.listeners }
-    ensures { AreJobs devices.wires.items devices.listeners.items
-        wire_passes.items listener_passes.items result.items }
+    requires room { vec_len devices.clocks ≤ vec_capacity room }
+    requires clocks { vec_len devices.clocks ≡
+        job_count (vec_len devices.wires) (vec_len devices.listeners) (vec_len devices.sync_wires) }
+    requires passes { vec_len passes ≡ vec_len devices.clocks }
+    requires sync_wires { (vec_len devices.sync_wires ≡ 0) ⊎ (vec_len devices.sync_wires ≡ 2) }
+    ensures { AreJobs devices.wires.items devices.listeners.items devices.sync_wires.items
+        passes.items result.items }
 {
     let Devices {
         wires,
         listeners,
-        wire_clocks,
-        listener_clocks,
+        sync_wires,
+        clocks,
     } = devices;
-    let room = add_wire_jobs(room, seed, wires, wire_passes, wire_clocks);
-    add_listener_jobs(room, seed, listeners, listener_passes, listener_clocks)
+    let mut passes = passes.into_iter();
+    let mut clocks = clocks.into_iter();
+    let room = add_wire_jobs(room, seed, wires, &mut passes, &mut clocks);
+    let room = add_listener_jobs(room, seed, listeners, &mut passes, &mut clocks);
+    let room = add_cleaner(room, &mut passes, &mut clocks);
+    add_sync_jobs(room, sync_wires, &mut passes, &mut clocks)
 }
 
-/// Puts a job for each wire into the room.
+/// Puts a job for each wire into the room, with the next passes and clocks.
 fn add_wire_jobs<W: Drop, L: Drop, C: Drop>(
     mut room: Vec<Job<W, L, C>>,
     seed: u64,
     wires: Vec<W>,
-    passes: Vec<Pass>,
-    clocks: Vec<C>,
+    passes: &mut IntoIter<Pass>,
+    clocks: &mut IntoIter<C>,
 ) -> Vec<Job<W, L, C>>
     requires room { vec_len room + vec_len wires ≤ vec_capacity room }
-    requires passes { vec_len passes ≡ vec_len wires }
-    requires clocks { vec_len clocks ≡ vec_len wires }
-    ensures jobs { (jobs : List (Job W L C)) × (result.items ≡ room.items ++ jobs)
-        × AreWireJobs wires.items passes.items jobs }
+    requires passes { vec_len wires ≤ length (into_iter_items passes.old) }
+    requires clocks { vec_len wires ≤ length (into_iter_items clocks.old) }
+    ensures jobs { AddsJobs (AreWireJobs wires.items) room.items result.items
+        (into_iter_items passes.old) (into_iter_items passes.new)
+        (into_iter_items clocks.old) (into_iter_items clocks.new) }
     ensures capacity { vec_capacity room ≤ vec_capacity result }
 {
-    let mut passes = passes.into_iter();
-    let mut clocks = clocks.into_iter();
     for wire in wires {
-        let pass = take_next(&mut passes);
-        let clock = take_next(&mut clocks);
+        let pass = take_next(passes);
+        let clock = take_next(clocks);
         let scratch = Scratch::new(seed_of(seed, pass.caller()));
         room.push_reserved(Job::Udp {
             pass,
@@ -124,20 +122,20 @@ fn add_listener_jobs<W: Drop, L: Drop, C: Drop>(
     mut room: Vec<Job<W, L, C>>,
     seed: u64,
     listeners: Vec<L>,
-    passes: Vec<Pass>,
-    clocks: Vec<C>,
+    passes: &mut IntoIter<Pass>,
+    clocks: &mut IntoIter<C>,
 ) -> Vec<Job<W, L, C>>
     requires room { vec_len room + vec_len listeners ≤ vec_capacity room }
-    requires passes { vec_len passes ≡ vec_len listeners }
-    requires clocks { vec_len clocks ≡ vec_len listeners }
-    ensures jobs { (jobs : List (Job W L C)) × (result.items ≡ room.items ++ jobs)
-        × AreLinkJobs listeners.items passes.items jobs }
+    requires passes { vec_len listeners ≤ length (into_iter_items passes.old) }
+    requires clocks { vec_len listeners ≤ length (into_iter_items clocks.old) }
+    ensures jobs { AddsJobs (AreLinkJobs listeners.items) room.items result.items
+        (into_iter_items passes.old) (into_iter_items passes.new)
+        (into_iter_items clocks.old) (into_iter_items clocks.new) }
+    ensures capacity { vec_capacity room ≤ vec_capacity result }
 {
-    let mut passes = passes.into_iter();
-    let mut clocks = clocks.into_iter();
     for listener in listeners {
-        let pass = take_next(&mut passes);
-        let clock = take_next(&mut clocks);
+        let pass = take_next(passes);
+        let clock = take_next(clocks);
         let scratch = Scratch::new(seed_of(seed, pass.caller()));
         room.push_reserved(Job::Http {
             pass,
@@ -150,7 +148,7 @@ fn add_listener_jobs<W: Drop, L: Drop, C: Drop>(
 }
 
 /// The next of those that are left.
-fn take_next<T: Drop>(left: &mut IntoIter<T>) -> T
+pub(crate) fn take_next<T: Drop>(left: &mut IntoIter<T>) -> T
     requires { 0 < length (into_iter_items left.old) }
     ensures { into_iter_items left.old ≡ result ∷ into_iter_items left.new }
 {

@@ -13,11 +13,11 @@ ghost use Rattle.ot_io.specs.Tales.{IsNewListener, listener_tale};
 ghost use Rattle.ot_io.specs.Traffic.{IsNewWire, wire_tale};
 ghost use Rattle.serve.specs.Jobs.{IsReady, Ran};
 ghost use Rattle.server.specs.Access.{IsListCaused};
-ghost use Rattle.server.specs.Devices.{IsShut, device_count};
+ghost use Rattle.server.specs.Devices.{AreDevices, IsShut, TakesBack};
 ghost use Rattle.server.specs.Input.{IsInputCaused};
 ghost use Rattle.server.specs.Opening.{IsOpened};
 ghost use Rattle.server.specs.Run.{BeginsWith, CanServe, Concludes, HasConcluded, IsServeCaused};
-ghost use Rattle.server.specs.Run.{RunsServer, ServesTo, TakesBack, TellsList, ended_as};
+ghost use Rattle.server.specs.Run.{RunsServer, ServesTo, TellsList, ended_as};
 ghost use Rattle.server.specs.Teams.{HaveRun, IsWorker, listeners_of, wires_of};
 ghost use Rattle.shards.specs.Shape.{KnowsNumbers};
 ghost use Rattle.tracker_model.specs.Legal.{IsLegalHistory};
@@ -25,7 +25,7 @@ ghost use Rattle.tracker_model.specs.declared.entry.Entry.{Entry};
 
 use crate::access::read_list;
 use crate::closing::{end_jobs, join_idle};
-use crate::devices::{Devices, open_devices, return_listeners, return_wires};
+use crate::devices::{Devices, open_devices, return_devices};
 use crate::input::InputEnd;
 use crate::opening::{Opened, new_jobs, open_shards};
 use crate::summary::{line_of_summary, sum_up};
@@ -45,8 +45,9 @@ use std::thread::Threads;
 
 /// Runs a server, and tells on `err` how it ended. It begins with the access list, where there is
 /// to be one, which it reads from the input; then it serves datagrams and connections until the
-/// input ends, and writes the summary: the totals of all torrents, and how many calls were made.
-/// All that was made of the outside is handed back.
+/// input ends, cleans its buckets meanwhile, and where there are other nodes tells them what it
+/// learns and learns what they tell. At last it writes the summary: the totals of all torrents, and
+/// how many calls were made. All that was made of the outside is handed back.
 pub fn run_serve<
     W: Wire + Send + Drop,
     K: Conn + Send + Drop,
@@ -186,17 +187,12 @@ fn serve_on<
     outside: &mut N,
 ) -> Status
     requires can { CanServe settings.now }
-    requires few_wires { vec_len devices.wires ≤ 64 }
-    requires few_listeners { vec_len devices.listeners ≤ 64 }
-    requires wires { vec_len devices.wires ≡ device_count settings.now.workers settings.now.udp }
-    requires listeners { vec_len devices.listeners ≡ device_count settings.now.workers settings.now.http }
-    requires new_wires { All (λ wire. IsNewWire (W.traffic wire) (W.faults wire) (W.idles wire))
-        devices.wires.items }
-    requires new_listeners { All (λ listener. IsNewListener (L.links listener) (L.faults listener)
-        (L.idles listener)) devices.listeners.items }
-    requires wire_clocks { vec_len devices.wire_clocks ≡ vec_len devices.wires }
-    requires listener_clocks { vec_len devices.listener_clocks ≡ vec_len devices.listeners }
-    requires wires_out { AreOut (N.wires_lent outside.old) (vec_len devices.wires) }
+    requires devices { AreDevices
+        (λ wire. IsNewWire (W.traffic wire) (W.faults wire) (W.idles wire))
+        (λ listener. IsNewListener (L.links listener) (L.faults listener) (L.idles listener))
+        settings.now devices }
+    requires wires_out { AreOut (N.wires_lent outside.old)
+        (vec_len devices.wires + vec_len devices.sync_wires) }
     requires listeners_out { AreOut (N.listeners_lent outside.old) (vec_len devices.listeners) }
     ensures caused { IsServeCaused (S.ends input.old) (S.ends input.new)
         (S.faults input.old) (S.faults input.new) (O.faults out.old) (O.faults out.new)
@@ -205,7 +201,7 @@ fn serve_on<
         (N.wires_lent outside.old) (N.wires_lent outside.new)
         (N.listeners_lent outside.old) (N.listeners_lent outside.new)
         (O.written out.old) (O.written out.new) result }
-    ensures wires { TakesBack (vec_len devices.wires)
+    ensures wires { TakesBack (vec_len devices.wires + vec_len devices.sync_wires)
         (N.wires_lent outside.old) (N.wires_lent outside.new) }
     ensures listeners { TakesBack (vec_len devices.listeners)
         (N.listeners_lent outside.old) (N.listeners_lent outside.new) }
@@ -213,15 +209,12 @@ fn serve_on<
     ensures input { IsLaterSource S.faults S.ends S.aside input.old input.new }
     ensures out { IsLaterSink O.faults O.aside out.old out.new }
 {
-    let wires = devices.wires.len() as u32;
-    let listeners = devices.listeners.len() as u32;
-    match open_shards(alloc, &settings.replay, wires, listeners) {
+    match open_shards(alloc, settings, devices.clocks.len() as u32) {
         Ok(opened) => serve_opened(
             rt, alloc, settings, access, devices, opened, input, out, outside,
         ),
         Err(AllocError) => {
-            return_wires(outside, devices.wires);
-            return_listeners(outside, devices.listeners);
+            return_devices(outside, devices);
             Status::NoMemory
         }
     }
@@ -248,17 +241,13 @@ fn serve_opened<
     out: &mut O,
     outside: &mut N,
 ) -> Status
-    requires opened { IsOpened settings.now.replay (vec_len devices.wires)
-        (vec_len devices.listeners) opened }
-    requires wires { vec_len devices.wires ≡ device_count settings.now.workers settings.now.udp }
-    requires listeners { vec_len devices.listeners ≡ device_count settings.now.workers settings.now.http }
-    requires new_wires { All (λ wire. IsNewWire (W.traffic wire) (W.faults wire) (W.idles wire))
-        devices.wires.items }
-    requires new_listeners { All (λ listener. IsNewListener (L.links listener) (L.faults listener)
-        (L.idles listener)) devices.listeners.items }
-    requires wire_clocks { vec_len devices.wire_clocks ≡ vec_len devices.wires }
-    requires listener_clocks { vec_len devices.listener_clocks ≡ vec_len devices.listeners }
-    requires wires_out { AreOut (N.wires_lent outside.old) (vec_len devices.wires) }
+    requires opened { IsOpened settings.now (vec_len devices.clocks) opened }
+    requires devices { AreDevices
+        (λ wire. IsNewWire (W.traffic wire) (W.faults wire) (W.idles wire))
+        (λ listener. IsNewListener (L.links listener) (L.faults listener) (L.idles listener))
+        settings.now devices }
+    requires wires_out { AreOut (N.wires_lent outside.old)
+        (vec_len devices.wires + vec_len devices.sync_wires) }
     requires listeners_out { AreOut (N.listeners_lent outside.old) (vec_len devices.listeners) }
     ensures caused { IsServeCaused (S.ends input.old) (S.ends input.new)
         (S.faults input.old) (S.faults input.new) (O.faults out.old) (O.faults out.new)
@@ -267,7 +256,7 @@ fn serve_opened<
         (N.wires_lent outside.old) (N.wires_lent outside.new)
         (N.listeners_lent outside.old) (N.listeners_lent outside.new)
         (O.written out.old) (O.written out.new) result }
-    ensures wires { TakesBack (vec_len devices.wires)
+    ensures wires { TakesBack (vec_len devices.wires + vec_len devices.sync_wires)
         (N.wires_lent outside.old) (N.wires_lent outside.new) }
     ensures listeners { TakesBack (vec_len devices.listeners)
         (N.listeners_lent outside.old) (N.listeners_lent outside.new) }
@@ -279,12 +268,10 @@ fn serve_opened<
         shards,
         pass,
         idle,
-        wire_passes,
-        listener_passes,
+        passes,
         room,
     } = opened;
-    let seed = settings.replay.seed;
-    let jobs = new_jobs(room, seed, devices, wire_passes, listener_passes);
+    let jobs = new_jobs(room, settings.replay.seed, devices, passes);
     run_jobs(
         rt, alloc, settings, access, shards, pass, idle, jobs, input, out, outside,
     )
@@ -313,22 +300,22 @@ fn run_jobs<
     out: &mut O,
     outside: &mut N,
 ) -> Status
-    requires alone { shards.settings.sync ≡ false }
     requires pass { pass.shards ≡ shards }
     requires first { pass.caller ≡ 0 }
     requires known { KnowsNumbers pass }
     requires out { pass.out ≡ vec_len idle + vec_len jobs }
     requires idle { All (λ other. (other.shards ≡ shards) × (other.caller ≢ 0)) idle.items }
-    requires ready { All (IsReady shards) jobs.items }
+    requires ready { All (IsReady shards settings.now.sync) jobs.items }
     requires workers { All (IsWorker shards) jobs.items }
     requires wires_out { AreOut (N.wires_lent outside.old) (length (wires_of jobs.items)) }
-    requires listeners_out { AreOut (N.listeners_lent outside.old) (length (listeners_of jobs.items)) }
+    requires listeners_out { AreOut (N.listeners_lent outside.old)
+        (length (listeners_of jobs.items)) }
     ensures caused { IsServeCaused (S.ends input.old) (S.ends input.new)
         (S.faults input.old) (S.faults input.new) (O.faults out.old) (O.faults out.new)
         (N.faults outside.old) (N.faults outside.new) result }
     ensures concluded { HasConcluded shards (O.written out.old) (O.written out.new) result (λ last.
-        HaveRun (Ran W.traffic W.faults L.links L.faults settings.now.replay.secret
-        (option_copied access.entry) settings.now.replay.full)
+        HaveRun (Ran W.traffic W.faults L.links L.faults settings.now
+        (option_copied access.entry))
         (λ wire. wire_tale (W.traffic wire) (W.faults wire) (W.idles wire))
         (λ listener. listener_tale (L.links listener) (L.faults listener) (L.idles listener))
         idle.items jobs.items pass last
@@ -383,12 +370,13 @@ fn do_jobs<
     requires first { pass.old.caller ≡ 0 }
     requires known { KnowsNumbers pass.old }
     requires idle { All (λ other. (other.shards ≡ shards.now) × (other.caller ≢ 0)) idle.items }
-    requires ready { All (IsReady shards.now) jobs.items }
+    requires ready { All (IsReady shards.now settings.now.sync) jobs.items }
     requires workers { All (IsWorker shards.now) jobs.items }
     requires wires_out { AreOut (N.wires_lent outside.old) (length (wires_of jobs.items)) }
-    requires listeners_out { AreOut (N.listeners_lent outside.old) (length (listeners_of jobs.items)) }
-    ensures ran { HaveRun (Ran W.traffic W.faults L.links L.faults settings.now.replay.secret
-        (option_copied access.entry) settings.now.replay.full)
+    requires listeners_out { AreOut (N.listeners_lent outside.old)
+        (length (listeners_of jobs.items)) }
+    ensures ran { HaveRun (Ran W.traffic W.faults L.links L.faults settings.now
+        (option_copied access.entry))
         (λ wire. wire_tale (W.traffic wire) (W.faults wire) (W.idles wire))
         (λ listener. listener_tale (L.links listener) (L.faults listener) (L.idles listener))
         idle.items jobs.items pass.old pass.new
@@ -420,7 +408,6 @@ fn conclude<R: Wait, O: Sink>(rt: &R, shards: Shards, pass: Pass, out: &mut O) -
     requires pass { pass.shards ≡ shards }
     requires first { pass.caller ≡ 0 }
     requires alone { pass.out ≡ 0 }
-    requires kept { shards.settings.sync ≡ false }
     ensures written { Concludes (O.written out.old) (O.written out.new)
         (O.faults out.old) (O.faults out.new) pass.seen result }
     ensures legal { All (IsLegalHistory shards.settings) pass.seen }
@@ -435,7 +422,6 @@ fn conclude<R: Wait, O: Sink>(rt: &R, shards: Shards, pass: Pass, out: &mut O) -
 
 /// Writes the summary of closed shards.
 fn tell<O: Sink>(closed: Closed, out: &mut O) -> Status
-    requires alone { closed.shelf.settings.sync ≡ false }
     ensures written { (histories : List (List Entry)) → AllStand histories closed.shelf →
         closed.calls ≡ sum_by length histories →
         Concludes (O.written out.old) (O.written out.new)

@@ -22,7 +22,6 @@ const LINE_LEN: usize = 256;
 
 /// The totals of all buckets, each at its own time, from one scan of each.
 pub fn sum_up(shelf: &mut Shelf) -> Result<Totals, AllocError>
-    requires alone { shelf.old.settings.sync ≡ false }
     ensures { IfOk result (λ totals. (histories : List (List Entry)) →
         AllStand histories shelf.old → totals ≡ totals_in histories) }
 {
@@ -38,7 +37,6 @@ pub fn sum_up(shelf: &mut Shelf) -> Result<Totals, AllocError>
 fn sum_bucket(shelf: &mut Shelf, bucket: u32) -> Result<Totals, AllocError>
     requires within { bucket < 2 ^ shelf.old.bits }
     requires whole { length shelf.old.buckets ≡ 2 ^ shelf.old.bits }
-    requires alone { shelf.old.settings.sync ≡ false }
     ensures others { (changed : Shape) × (shelf.new ≡ with_bucket shelf.old bucket changed) }
     ensures small { IfOk result (IsWithin (2 ^ 96)) }
     ensures totals { IfOk result (λ totals. (history : List Entry) →

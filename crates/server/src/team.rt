@@ -20,16 +20,17 @@ use std::thread::Threads;
 /// told apart from its type is for the threads: they take any task, and no type with parameters of
 /// its own.
 pub(crate) trait Task {
-    ghost use Rattle.std.specs.Prelude.{Bool, Option};
+    ghost use Rattle.std.specs.Prelude.{Option};
     ghost use Rattle.access_list.specs.Access.{Listing};
-    ghost use Rattle.ot_base.specs.declared.hash.Secret.{Secret};
+    ghost use Rattle.ot_io.specs.declared.settings.ServeSettings.{ServeSettings};
+    ghost use Rattle.ot_io.specs.declared.settings.SyncSettings.{SyncSettings};
     ghost use Rattle.shards.specs.Shape.{ShardsShape};
 
-    /// It may begin on these shards.
-    ghost ready: { ShardsShape → Self → Type 0 };
+    /// It may begin on these shards, with these other nodes.
+    ghost ready: { ShardsShape → Option SyncSettings → Self → Type 0 };
 
-    /// What it did, by the secret, the access list and whether all torrents may be asked for.
-    ghost ran: { Secret → Option Listing → Bool → Self → Self → Type 0 };
+    /// What it did, by the settings and the access list.
+    ghost ran: { ServeSettings → Option Listing → Self → Self → Type 0 };
 
     /// Does it all.
     fn perform<R: Wait>(
@@ -41,18 +42,17 @@ pub(crate) trait Task {
         access: Option<&AccessList>,
         stop: &AtomicBool,
     )
-        requires { ready shards.now self.old }
-        ensures { ran settings.now.replay.secret (option_copied access.entry)
-            settings.now.replay.full self.old self.new };
+        requires { ready shards.now settings.now.sync self.old }
+        ensures { ran settings.now (option_copied access.entry) self.old self.new };
 }
 
 impl<W: Wire, L: Listener, C: Clock> Task for Job<W, L, C> {
     ghost use Rattle.serve.specs.Jobs.{IsReady, Ran};
 
-    ghost ready = { λ shards job. IsReady shards job };
+    ghost ready = { λ shards sync job. IsReady shards sync job };
 
-    ghost ran = { λ secret access full old new.
-        Ran W.traffic W.faults L.links L.faults secret access full old new };
+    ghost ran = { λ settings access old new.
+        Ran W.traffic W.faults L.links L.faults settings access old new };
 
     fn perform<R: Wait>(
         &mut self,
@@ -78,9 +78,8 @@ pub(crate) fn work<R: Threads + Wait + Sync, S: Source + Send, J: Task + Send>(
     input: &mut S,
     stop: &AtomicBool,
 ) -> InputEnd
-    requires ready { All (J.ready shards.now) tasks.old }
-    ensures ran { AllRan (J.ran settings.now.replay.secret (option_copied access.entry)
-        settings.now.replay.full) tasks.old tasks.new }
+    requires ready { All (J.ready shards.now settings.now.sync) tasks.old }
+    ensures ran { AllRan (J.ran settings.now (option_copied access.entry)) tasks.old tasks.new }
     ensures caused { IsInputCaused (S.ends input.old) (S.ends input.new)
         (S.faults input.old) (S.faults input.new) result }
     ensures input { IsLaterSource S.faults S.ends S.aside input.old input.new }
@@ -89,9 +88,9 @@ pub(crate) fn work<R: Threads + Wait + Sync, S: Source + Send, J: Task + Send>(
         rt,
         &mut || await_end(rt, input, stop),
         &mut ||
-            requires { All (J.ready shards.now) tasks.now }
-            ensures { AllRan (J.ran settings.entry.now.replay.secret (option_copied access.entry)
-                settings.entry.now.replay.full) tasks.entry.now tasks.exit.now }
+            requires { All (J.ready shards.now settings.now.sync) tasks.now }
+            ensures { AllRan (J.ran settings.entry.now (option_copied access.entry))
+                tasks.entry.now tasks.exit.now }
         { perform_all(rt, alloc, shards, settings, access, tasks, stop) },
     );
     end
@@ -107,9 +106,8 @@ fn perform_all<R: Threads + Wait + Sync, J: Task + Send>(
     tasks: &mut [J],
     stop: &AtomicBool,
 )
-    requires { All (J.ready shards.now) tasks.old }
-    ensures { AllRan (J.ran settings.now.replay.secret (option_copied access.entry)
-        settings.now.replay.full) tasks.old tasks.new }
+    requires { All (J.ready shards.now settings.now.sync) tasks.old }
+    ensures { AllRan (J.ran settings.now (option_copied access.entry)) tasks.old tasks.new }
 {
     let threads = tasks.len().max(1);
     thread::for_each_mut(
@@ -117,9 +115,9 @@ fn perform_all<R: Threads + Wait + Sync, J: Task + Send>(
         tasks,
         threads,
         &|_, task: &mut J|
-            requires { J.ready shards.now task.now }
-            ensures { J.ran settings.entry.now.replay.secret (option_copied access.entry)
-                settings.entry.now.replay.full task.entry.now task.exit.now }
+            requires { J.ready shards.now settings.now.sync task.now }
+            ensures { J.ran settings.entry.now (option_copied access.entry)
+                task.entry.now task.exit.now }
         { task.perform(rt, alloc, shards, settings, access, stop) },
     );
 }

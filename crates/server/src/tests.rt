@@ -15,7 +15,7 @@ use super::*;
 use ot_base::{AccessFault, Addr, Endpoint, Limits, Mode, Secret};
 use ot_io::{
     ConnScript, Incoming, MemClock, MemListener, MemOutside, MemSink, MemSource, MemWire,
-    ReplaySettings, ServeSettings, Status, WireScript,
+    ReplaySettings, ServeSettings, Status, SyncSettings, WireScript,
 };
 use std::alloc::{AllocError, Global};
 use std::sync::Wait;
@@ -35,7 +35,7 @@ const SERVER: Endpoint = Endpoint {
 /// The settings of a server with a worker, which is nowhere yet.
 const USUAL: ServeSettings = ServeSettings {
     replay: ReplaySettings {
-        bits: 10,
+        bits: 0,
         limits: Limits {
             peers: 100_000,
             torrents: 65_536,
@@ -47,6 +47,7 @@ const USUAL: ServeSettings = ServeSettings {
     },
     udp: None,
     http: None,
+    sync: None,
     workers: 1,
 };
 
@@ -60,6 +61,39 @@ const UDP: ServeSettings = ServeSettings {
 const HTTP: ServeSettings = ServeSettings {
     http: Some(SERVER),
     ..USUAL
+};
+
+/// Another node.
+const NODE: Endpoint = Endpoint {
+    addr: Addr::V4([192, 0, 2, 8]),
+    port: 9_696,
+};
+
+/// Node 1 shares with that one.
+const SYNC: SyncSettings = SyncSettings {
+    at: Endpoint {
+        port: 9_696,
+        ..SERVER
+    },
+    own: 1,
+    nodes: [
+        Some(NODE),
+        None,
+        None,
+        None,
+        None,
+        None,
+        None,
+        None,
+        None,
+        None,
+        None,
+        None,
+        None,
+        None,
+        None,
+        None,
+    ],
 };
 
 /// A seeder of a torrent announces itself by BEP 15, with the id that its client has in minute 0
@@ -95,15 +129,20 @@ fn outside(alloc: Global, failing: &[u64]) -> Result<MemOutside, AllocError> {
     Ok(MemOutside::new(alloc, MemClock::new(0, 0), failing))
 }
 
-/// A wire at which CLIENT's datagrams wait, of which the calls of these numbers fail.
-fn wire(alloc: Global, datagrams: &[[u8; 98]], failing: &[u64]) -> Result<MemWire, AllocError>
+/// A wire at which datagrams wait that all come from here. Its calls of these numbers fail.
+fn wire<const N: usize>(
+    alloc: Global,
+    from: Endpoint,
+    datagrams: &[[u8; N]],
+    failing: &[u64],
+) -> Result<MemWire, AllocError>
     ensures { IfOk result (λ wire. IsNewWire (Some (wire_traffic wire)) (wire_faults wire)
         (wire_idles wire)) }
 {
     let mut incoming = Vec::new(alloc);
     for bytes in datagrams {
         incoming.push(Incoming {
-            from: CLIENT,
+            from,
             bytes: Vec::from_slice(alloc, bytes)?,
         })?;
     }
@@ -115,29 +154,20 @@ fn wire(alloc: Global, datagrams: &[[u8; 98]], failing: &[u64]) -> Result<MemWir
     MemWire::new(alloc, script)
 }
 
-/// A listener at which so many of CLIENT's connections wait, each with the same request. The calls
-/// of `accept` of the first numbers fail, and the second connection's of the second numbers.
-fn listener(
-    alloc: Global,
-    clients: u32,
-    failing: &[u64],
-    second: &[u64],
-) -> Result<MemListener, AllocError>
+/// A listener at which a connection of CLIENT waits.
+fn listener(alloc: Global) -> Result<MemListener, AllocError>
     ensures { IfOk result (λ listener. IsNewListener (Some (links_of listener))
         (listener_faults listener) (listener_idles listener)) }
 {
-    let mut listener = MemListener::new(alloc, Vec::from_slice(alloc, failing)?);
-    for number in 0..clients {
-        let failing = if number == 1 { second } else { &[] };
-        let script = ConnScript {
-            sent: Vec::from_slice(alloc, REQUEST)?,
-            lengths: Vec::new(alloc),
-            room: 1_000,
-            piece: 1_000,
-            failing: Vec::from_slice(alloc, failing)?,
-        };
-        listener.offer(alloc, CLIENT, script)?;
-    }
+    let mut listener = MemListener::new(alloc, Vec::new(alloc));
+    let script = ConnScript {
+        sent: Vec::from_slice(alloc, REQUEST)?,
+        lengths: Vec::new(alloc),
+        room: 1_000,
+        piece: 1_000,
+        failing: Vec::new(alloc),
+    };
+    listener.offer(alloc, CLIENT, script)?;
     Ok(listener)
 }
 
@@ -183,13 +213,14 @@ fn serve<R: Threads + Wait + Sync>(
     serve_with(rt, alloc, settings, &mut input, &[], outside)
 }
 
-/// The summary after the one announce of a seeder.
-const ONE_SEEDER: &[u8] = b"torrents 1 complete 1 incomplete 0 calls 1\n";
+/// The summary after the one announce of a seeder. The one bucket is cleaned twice, at the start
+/// and at the end, since the clock stands.
+const ONE_SEEDER: &[u8] = b"torrents 1 complete 1 incomplete 0 calls 3\n";
 
 #[test]
 fn datagrams_are_served(rt: HostRuntime) -> Result<(), Fail> {
     let mut outside = outside(rt.alloc(), &[])?;
-    outside.add_wire(wire(rt.alloc(), &[ANNOUNCE], &[])?)?;
+    outside.add_wire(wire(rt.alloc(), CLIENT, &[ANNOUNCE], &[])?)?;
     let run = serve(&rt, rt.alloc(), &UDP, &mut outside)?;
     assert_eq!(&rt; run.status, Status::Done);
     assert_eq!(&rt; run.out.as_slice(), ONE_SEEDER);
@@ -205,7 +236,7 @@ fn datagrams_are_served(rt: HostRuntime) -> Result<(), Fail> {
 #[test]
 fn connections_are_served(rt: HostRuntime) -> Result<(), Fail> {
     let mut outside = outside(rt.alloc(), &[])?;
-    outside.add_listener(listener(rt.alloc(), 1, &[], &[])?)?;
+    outside.add_listener(listener(rt.alloc())?)?;
     let run = serve(&rt, rt.alloc(), &HTTP, &mut outside)?;
     assert_eq!(&rt; run.status, Status::Done);
     assert_eq!(&rt; run.out.as_slice(), ONE_SEEDER);
@@ -234,7 +265,7 @@ fn serve_denying<R: Threads + Wait + Sync>(
         },
         ..UDP
     };
-    outside.add_wire(wire(alloc, &[ANNOUNCE], &[])?)?;
+    outside.add_wire(wire(alloc, CLIENT, &[ANNOUNCE], &[])?)?;
     let mut input = MemSource::new(list.as_bytes(), &[7], &[]);
     serve_with(rt, alloc, &settings, &mut input, &[], outside)
 }

@@ -66,11 +66,10 @@ pub record IsLockFor (settings : Settings) (callers : ℕ) (lock : LockShape) : 
   pub settings_are : lock.settings ≡ numbers_of settings
   pub callers_are : lock.callers ≡ callers
 
--- what holds of shards: there is a lock for each bucket, and none of them keeps notes
+-- what holds of shards: there is a lock for each bucket
 pub record AreShards (shards : ShardsShape) : Type 0 where
   pub few_bits : shards.bits ≤ 10
   pub buckets : length shards.locks ≡ 2 ^ shards.bits
-  pub alone : shards.settings.sync ≡ false
   pub some_callers : 1 ≤ shards.callers
   pub few_callers : shards.callers ≤ 1024
   pub each : All (IsLockFor shards.settings shards.callers) shards.locks

@@ -1,11 +1,10 @@
 //! Calls.
 
 ghost use Rattle.std.specs.Prelude.{◌≡◌, ◌<◌, ◌≤◌, ◌^◌, ◌+◌, length, true};
-ghost use Rattle.bucket.specs.Public.{is_own};
 ghost use Rattle.ot_base.specs.Hash.{first_bits};
 ghost use Rattle.shards.specs.Passing.{MadeByPass};
 ghost use Rattle.shards.specs.Shape.{KnowsNumbers};
-ghost use Rattle.tracker_model.specs.Calls.{IsWellFormed, is_request};
+ghost use Rattle.tracker_model.specs.Calls.{IsWellFormed, names_torrent};
 ghost use Rattle.tracker_model.specs.Grows.{history_at};
 ghost use Rattle.tracker_model.specs.Kinds.{IsKindOf};
 ghost use Rattle.tracker_model.specs.Placed.{bucket_for, bucket_in};
@@ -27,7 +26,7 @@ pub struct Done {
 }
 
 impl Shards {
-    /// Makes an announce, a stop or a scrape on its torrent's bucket, in its turn. The bucket's
+    /// Makes a call that names a torrent on that torrent's bucket, in its turn. The bucket's
     /// history goes on with calls of others, of which none is joined to the pass, and then with
     /// this one, which is answered right just there. An announce is told the peers that `words`
     /// choose.
@@ -44,7 +43,7 @@ impl Shards {
     ) -> Done
         requires pass { pass.old.shards ≡ self.now }
         requires formed { IsWellFormed call }
-        requires named { is_request call ≡ true }
+        requires named { names_torrent call ≡ true }
         ensures bucket { result.bucket ≡ bucket_for (bucket_in self.now.bits) call }
         ensures kind { IsKindOf self.now.settings call result.answer }
         ensures made { MadeByPass pass.old result.bucket minute call result.answer pass.new }
@@ -55,8 +54,8 @@ impl Shards {
         self.call_in(rt, pass, bucket, minute, call, words)
     }
 
-    /// The same on a named bucket, and for scans and cleanings too. A torrent that is named has to
-    /// belong to the bucket.
+    /// The same on a named bucket, and for calls that name no torrent too. A torrent that is named
+    /// has to belong to the bucket.
     #[inline(always)]
     pub fn call_in<R: Wait>(
         &self,
@@ -70,8 +69,7 @@ impl Shards {
         requires pass { pass.old.shards ≡ self.now }
         requires within { bucket < 2 ^ self.now.bits }
         requires formed { IsWellFormed call }
-        requires answerable { is_own call ≡ true }
-        requires belongs { is_request call ≡ true →
+        requires belongs { names_torrent call ≡ true →
             bucket ≡ bucket_for (bucket_in self.now.bits) call }
         ensures bucket { result.bucket ≡ bucket }
         ensures kind { IsKindOf self.now.settings call result.answer }

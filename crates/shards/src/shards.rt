@@ -1,6 +1,6 @@
 //! The shards, and how they are made.
 
-ghost use Rattle.std.specs.Prelude.{◌≡◌, ◌≤◌, ◌^◌, All, IfOk, false, length, map, vec_len};
+ghost use Rattle.std.specs.Prelude.{◌≡◌, ◌≤◌, ◌^◌, All, IfOk, length, map, vec_len};
 ghost use Rattle.shards.specs.Shape.{IsLockFor, first_pass};
 ghost use Rattle.tracker_model.specs.Settings.{AreLimits};
 ghost use Rattle.turn_lock.specs.Shape.{first_turn};
@@ -49,8 +49,9 @@ impl Model for Shards {
 
 impl Shards {
     /// Shards of 2^`bits` empty buckets for callers of the numbers below `callers`, and the pass of
-    /// caller 0, which has all the other numbers free. Each bucket has limits from 1 to 1,000,000,
-    /// and none keeps notes. The room that `close` needs is taken here.
+    /// caller 0, which has all the other numbers free. Each bucket has limits from 1 to 1,000,000.
+    /// They keep notes for other nodes where `sync` is set. The room that `close` needs is taken
+    /// here.
     pub fn new(
         alloc: Global,
         bits: u32,
@@ -60,7 +61,6 @@ impl Shards {
     ) -> Result<(Shards, Pass), AllocError>
         requires few_buckets { bits ≤ 10 }
         requires limits { AreLimits limits }
-        requires alone { sync ≡ false }
         requires some_callers { 1 ≤ callers }
         requires few_callers { callers ≤ 1024 }
         ensures settings { IfOk result (λ r. r.0.settings ≡ record { limits = limits; sync = sync }) }
@@ -82,6 +82,14 @@ impl Shards {
         };
         let pass = Pass::first(&shards, turns);
         Ok((shards, pass))
+    }
+
+    /// How many buckets there are, at most 1,024.
+    pub fn bucket_count(&self) -> u32
+        ensures count { result ≡ 2 ^ self.now.bits }
+        ensures most { result ≤ 1024 }
+    {
+        1 << self.bits
     }
 }
 

@@ -1,10 +1,11 @@
 //! What no clause says: worked values, and that threads get their turns.
 
 ghost use Rattle.std.specs.Prelude.{◌≡◌, ◌≢◌, ◌+◌, ◌<◌, ◌≤◌, ◌^◌, All, IfOk, false, length, true};
-ghost use Rattle.tracker_model.specs.Calls.{IsReport, IsWellFormed, is_request};
+ghost use Rattle.tracker_model.specs.Calls.{IsPeer, IsReport, IsWellFormed, names_torrent};
 ghost use Rattle.shards.specs.Shape.{first_pass};
 
 mod seats;
+mod syncs;
 mod threads;
 
 use super::*;
@@ -25,18 +26,25 @@ const USUAL: Limits = Limits {
     torrents: 65_536,
 };
 
-/// 192.0.2.n at port 6881 takes part, has not all of the torrent, and wants no peers.
+/// 192.0.2.n at port 6881.
+fn peer(n: u8) -> Endpoint
+    ensures { IsPeer result }
+{
+    Endpoint {
+        addr: Addr::V4([192, 0, 2, n]),
+        port: 6881,
+    }
+}
+
+/// The peer takes part, has not all of the torrent, and wants no peers.
 fn announce(hash: InfoHash, n: u8) -> Call
     ensures formed { IsWellFormed result }
     ensures report { IsReport result }
-    ensures request { is_request result ≡ true }
+    ensures request { names_torrent result ≡ true }
 {
     Call::Announce {
         hash,
-        who: Endpoint {
-            addr: Addr::V4([192, 0, 2, n]),
-            port: 6881,
-        },
+        who: peer(n),
         seed: false,
         completed: false,
         want: 0,

@@ -36,7 +36,8 @@ record_fault rows = option_map (λ i. Flag i) (position (λ bytes. is_none (note
 
 -- the notes of records, or the first that is wrong
 abbrev pub notes_of : List (List ℕ) → Result (List Note) SyncFault
-notes_of rows = option_map_or (λ fault. Err fault) (record_fault rows) (Ok (filter_map note_of rows))
+notes_of rows =
+    option_map_or (λ fault. Err fault) (record_fault rows) (Ok (filter_map note_of rows))
 
 -- why a datagram is refused by the reader of a number: the first of these, if there is one
 unfoldable pub fault_of : ℕ → List ℕ → Option SyncFault

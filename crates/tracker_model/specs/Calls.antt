@@ -28,15 +28,15 @@ IsWellFormed Clean = Unit {0}
 IsWellFormed (Sync h who mark) = IsPeer who
 IsWellFormed Drain = Unit {0}
 
--- whether a call is what a client asks: an announce, a stop or a scrape
-abbrev pub is_request : Call → Bool
-is_request (Announce h who seed completed want) = true
-is_request (Stop h who) = true
-is_request (Scrape h) = true
-is_request Scan = false
-is_request Clean = false
-is_request (Sync h who mark) = false
-is_request Drain = false
+-- whether a call names a torrent
+abbrev pub names_torrent : Call → Bool
+names_torrent (Announce h who seed completed want) = true
+names_torrent (Stop h who) = true
+names_torrent (Scrape h) = true
+names_torrent Scan = false
+names_torrent Clean = false
+names_torrent (Sync h who mark) = true
+names_torrent Drain = false
 
 -- an announce or a stop
 abbrev pub IsReport : Call → Type 0

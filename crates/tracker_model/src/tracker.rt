@@ -39,7 +39,6 @@ pub trait Tracker {
     fn report(&mut self, minute: Minute, call: Call, words: &[u32; 200]) -> Answer
         requires formed { IsWellFormed call }
         requires report { IsReport call }
-        requires alone { (settings self.old).sync ≡ false }
         ensures settings { settings self.new ≡ settings self.old }
         ensures bits { bits self.new ≡ bits self.old }
         ensures kind { IsKindOf (settings self.old) call result }
@@ -48,7 +47,6 @@ pub trait Tracker {
 
     /// Scrapes a torrent: its counts, and whether it is known.
     fn scrape(&mut self, minute: Minute, hash: &InfoHash) -> (Counts, bool)
-        requires alone { (settings self.old).sync ≡ false }
         ensures settings { settings self.new ≡ settings self.old }
         ensures bits { bits self.new ≡ bits self.old }
         ensures made { made self.old (bucket_in (bits self.old) hash.now) minute
@@ -57,7 +55,6 @@ pub trait Tracker {
     /// Scans a bucket: the counts of all its known torrents, ascending by hash.
     fn scan(&mut self, bucket: u32, minute: Minute) -> Result<Rows, AllocError>
         requires within { bucket < 2 ^ bits self.old }
-        requires alone { (settings self.old).sync ≡ false }
         ensures settings { settings self.new ≡ settings self.old }
         ensures bits { bits self.new ≡ bits self.old }
         ensures made { made self.old bucket minute Scan (scanned result) self.new };
@@ -65,7 +62,6 @@ pub trait Tracker {
     /// Cleans a bucket, and tells how many peers are left in it.
     fn clean(&mut self, bucket: u32, minute: Minute) -> u64
         requires within { bucket < 2 ^ bits self.old }
-        requires alone { (settings self.old).sync ≡ false }
         ensures settings { settings self.new ≡ settings self.old }
         ensures bits { bits self.new ≡ bits self.old }
         ensures made { made self.old bucket minute Clean (Cleaned result) self.new };

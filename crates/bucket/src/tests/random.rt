@@ -4,7 +4,8 @@ ghost use Rattle.std.specs.Prelude.{◌≡◌, ◌<◌, true, false};
 ghost use Rattle.tracker_model.specs.Calls.{IsPeer};
 
 use super::*;
-use ot_base::{Counts, Held, Row};
+use crate::outbox::mark_of;
+use ot_base::{Counts, Held, Note, Row};
 
 /// Numbers that look random: a linear congruential generator.
 #[derive(Drop)]
@@ -48,11 +49,13 @@ struct Plain {
     is_shuffled: bool,
 }
 
-/// The known torrents.
+/// The known torrents, and the notes since the last drain, where sync is on.
 #[derive(Drop)]
 struct Plains {
     time: u32,
     torrents: Vec<Plain>,
+    sync: bool,
+    notes: Vec<Note>,
 }
 
 const NARROW: Limits = Limits {
@@ -77,6 +80,13 @@ impl Plains {
                 torrent.is_shuffled = after > 1;
             }
         }
+    }
+
+    fn note(&mut self, hash: InfoHash, who: Endpoint, mark: Mark) -> Result<(), AllocError> {
+        if self.sync {
+            self.notes.push(Note { hash, who, mark })?;
+        }
+        Ok(())
     }
 
     fn place(&self, hash: &InfoHash) -> Option<usize> {
@@ -268,9 +278,7 @@ fn announce_both(
     minute: u32,
     dice: &mut Dice,
 ) -> Result<(), AllocError>
-    requires alone { bucket.old.settings.sync ≡ false }
-    requires peer { IsPeer who }
-    ensures { bucket.new.settings ≡ bucket.old.settings }
+    requires { IsPeer who }
 {
     let seed = dice.below(3) == 0;
     let completed = seed && dice.below(2) == 0;
@@ -297,17 +305,82 @@ fn announce_both(
                 "after an announce"
             );
             compare_told(rt, plains, &hash, &who, want, &words, peers.as_slice())?;
+            plains.note(hash, who, mark_of(seed))?;
         }
         _ => assert_eq!(rt; Some(outcome_of(&answer)), refused, "refused"),
     }
     Ok(())
 }
 
-/// A cleaning of both.
-fn clean_both(rt: &impl Abort, bucket: &mut Bucket, plains: &Plains, minute: u32)
-    requires alone { bucket.old.settings.sync ≡ false }
-    ensures { bucket.new.settings ≡ bucket.old.settings }
+/// A stop on both.
+fn stop_both(
+    rt: &impl Abort,
+    bucket: &mut Bucket,
+    plains: &mut Plains,
+    hash: InfoHash,
+    who: Endpoint,
+    minute: u32,
+) -> Result<(), AllocError>
+    requires { IsPeer who }
 {
+    plains.take(&hash, &who);
+    plains.note(hash, who, Mark::Stopped)?;
+    let stopped = ask(bucket, minute, Call::Stop { hash, who }, &WORDS);
+    let (complete, downloaded, incomplete) = plains.counts(&hash);
+    let told = Outcome::Told(complete, downloaded, incomplete, None);
+    assert_eq!(rt; outcome_of(&stopped), told, "stopped");
+    Ok(())
+}
+
+/// What another node says, on both.
+fn sync_both(
+    rt: &(impl Abort + AllocGlobal),
+    bucket: &mut Bucket,
+    plains: &mut Plains,
+    hash: InfoHash,
+    who: Endpoint,
+    minute: u32,
+    mark: Mark,
+) -> Result<(), AllocError>
+    requires { IsPeer who }
+{
+    let held = Held {
+        who,
+        seed: mark == Mark::Seed,
+        stamp: Minute(plains.time),
+    };
+    let mut refused = None;
+    if mark == Mark::Stopped {
+        plains.take(&hash, &who);
+    } else {
+        refused = plains.put(rt.alloc(), hash, held, false)?;
+    }
+    let answer = ask(bucket, minute, Call::Sync { hash, who, mark }, &WORDS);
+    assert_eq!(rt;
+        outcome_of(&answer),
+        refused.unwrap_or(Outcome::Applied),
+        "applied"
+    );
+    let (counts, _) = bucket.scrape(0, Minute(minute), &hash);
+    assert_eq!(rt; told_counts(&counts), plains.counts(&hash), "after a sync");
+    Ok(())
+}
+
+/// A drain of both.
+fn drain_both(rt: &impl Abort, bucket: &mut Bucket, plains: &mut Plains, minute: u32) {
+    let drained = ask(bucket, minute, Call::Drain, &WORDS);
+    match &drained {
+        Answer::Drained { notes, dropped } => {
+            assert_eq!(rt; notes.as_slice(), plains.notes.as_slice(), "drained");
+            assert_eq!(rt; *dropped, 0, "dropped");
+        }
+        _ => panic!(rt; "no drain"),
+    }
+    plains.notes.clear();
+}
+
+/// A cleaning of both.
+fn clean_both(rt: &impl Abort, bucket: &mut Bucket, plains: &Plains, minute: u32) {
     let held = bucket.clean(0, Minute(minute));
     let left = plains.held();
     assert_eq!(rt; (held, bucket.held()), (left, left), "cleaned");
@@ -330,10 +403,7 @@ fn scan_both(
     bucket: &mut Bucket,
     plains: &Plains,
     minute: u32,
-) -> Result<(), AllocError>
-    requires alone { bucket.old.settings.sync ≡ false }
-    ensures { bucket.new.settings ≡ bucket.old.settings }
-{
+) -> Result<(), AllocError> {
     let rows = bucket.scan(0, Minute(minute))?;
     compare_rows(rt, plains, rows.as_slice());
     Ok(())
@@ -345,21 +415,12 @@ fn call_both(
     plains: &mut Plains,
     minute: u32,
     dice: &mut Dice,
-) -> Result<(), AllocError>
-    requires alone { bucket.old.settings.sync ≡ false }
-    ensures { bucket.new.settings ≡ bucket.old.settings }
-{
+) -> Result<(), AllocError> {
     plains.pass_to(minute);
     let hash = InfoHash([dice.below(7) as u8; 20]);
     let who = numbered(dice.below(11) as u8);
     match dice.below(20) {
-        0 | 1 => {
-            plains.take(&hash, &who);
-            let stopped = ask(bucket, minute, Call::Stop { hash, who }, &WORDS);
-            let (complete, downloaded, incomplete) = plains.counts(&hash);
-            let told = Outcome::Told(complete, downloaded, incomplete, None);
-            assert_eq!(rt; outcome_of(&stopped), told, "stopped");
-        }
+        0 | 1 => stop_both(rt, bucket, plains, hash, who, minute)?,
         2 | 3 => {
             let (counts, known) = bucket.scrape(0, Minute(minute), &hash);
             assert_eq!(rt; told_counts(&counts), plains.counts(&hash), "scraped");
@@ -367,20 +428,30 @@ fn call_both(
         }
         4 => scan_both(rt, bucket, plains, minute)?,
         5 => clean_both(rt, bucket, plains, minute),
+        6 => drain_both(rt, bucket, plains, minute),
+        7 => sync_both(rt, bucket, plains, hash, who, minute, Mark::Leecher)?,
+        8 => sync_both(rt, bucket, plains, hash, who, minute, Mark::Seed)?,
+        9 => sync_both(rt, bucket, plains, hash, who, minute, Mark::Stopped)?,
         _ => announce_both(rt, bucket, plains, hash, who, minute, dice)?,
     }
     Ok(())
 }
 
-#[test]
-fn bucket_follows_a_plain_list(rt: HostRuntime) -> Result<(), Fail> {
+/// Makes random calls on both.
+fn follow_plains(
+    rt: &(impl Abort + AllocGlobal),
+    sync: bool,
+    calls: u32,
+) -> Result<(), AllocError> {
     let mut dice = Dice { state: 5 };
-    let mut bucket = Bucket::new(rt.alloc(), NARROW, false)?;
+    let mut bucket = Bucket::new(rt.alloc(), NARROW, sync)?;
     let mut plains = Plains {
         time: 0,
         torrents: Vec::new(rt.alloc()),
+        sync,
+        notes: Vec::new(rt.alloc()),
     };
-    for _ in 0..10_000 {
+    for _ in 0..calls {
         let minutes = match dice.below(200) {
             0 => 1400 + dice.below(60),
             1 | 2 | 3 | 4 | 5 => dice.below(60),
@@ -392,8 +463,15 @@ fn bucket_follows_a_plain_list(rt: HostRuntime) -> Result<(), Fail> {
             .time
             .saturating_add(minutes)
             .saturating_sub(dice.below(2));
-        call_both(&rt, &mut bucket, &mut plains, minute, &mut dice)?;
-        assert_eq!(&rt; bucket.time(), Minute(plains.time), "time");
+        call_both(rt, &mut bucket, &mut plains, minute, &mut dice)?;
+        assert_eq!(rt; bucket.time(), Minute(plains.time), "time");
     }
+    Ok(())
+}
+
+#[test]
+fn bucket_follows_a_plain_list(rt: HostRuntime) -> Result<(), Fail> {
+    follow_plains(&rt, false, 5000)?;
+    follow_plains(&rt, true, 5000)?;
     Ok(())
 }

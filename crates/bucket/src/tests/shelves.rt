@@ -1,7 +1,7 @@
 //! Worked values of a shelf.
 
 ghost use Rattle.std.specs.Prelude.{◌≡◌, ◌<◌, ◌≤◌, ◌^◌, All, IfOk, false, length, true};
-ghost use Rattle.tracker_model.specs.Calls.{IsReport, IsWellFormed, is_request};
+ghost use Rattle.tracker_model.specs.Calls.{IsReport, IsWellFormed, names_torrent};
 ghost use Rattle.tracker_model.specs.Settings.{AreLimits};
 
 use super::*;
@@ -10,9 +10,7 @@ use tracker_model::Tracker;
 /// Asks a shelf once, and again where there was no memory.
 fn ask_shelf(shelf: &mut Shelf, call: Call) -> Answer
     requires formed { IsWellFormed call }
-    requires alone { shelf.old.settings.sync ≡ false }
-    requires request { is_request call ≡ true }
-    ensures { shelf.new.settings ≡ shelf.old.settings }
+    requires named { names_torrent call ≡ true }
 {
     match shelf.call(Minute(0), call, &WORDS) {
         Answer::NoMemory => shelf.call(Minute(0), call, &WORDS),
@@ -122,7 +120,6 @@ fn finished(hash: InfoHash) -> Call
 
 /// Announces a seed that has just finished, once, and again where there was no memory.
 fn report<T: Tracker>(tracker: &mut T, hash: InfoHash) -> Answer
-    requires { (T.settings tracker.old).sync ≡ false }
     ensures settings { T.settings tracker.new ≡ T.settings tracker.old }
     ensures bits { T.bits tracker.new ≡ T.bits tracker.old }
 {
@@ -139,7 +136,6 @@ fn visit<T: Tracker>(
     hash: InfoHash,
     bucket: u32,
 ) -> Result<(), AllocError>
-    requires alone { (T.settings tracker.old).sync ≡ false }
     requires within { bucket < 2 ^ T.bits tracker.old }
 {
     let told = report(tracker, hash);

@@ -99,7 +99,6 @@ fn served<R: Wait>(
     case: &Case,
 ) -> Result<(ConnEnd, MemConn), AllocError>
     requires pass { pass.old.shards ≡ shards.now }
-    requires alone { shards.now.settings.sync ≡ false }
     ensures pass { pass.new.shards ≡ shards.now }
 {
     let script = ConnScript {

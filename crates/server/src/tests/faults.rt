@@ -4,19 +4,22 @@ use super::*;
 
 const NO_DEVICE: &[u8] = b"opentracker: device fault\n";
 
-/// The makers are called in this order: wires, listeners, the clocks of each. All that was made
-/// before the one that fails comes back.
+/// The makers are called in this order: wires, listeners, wires to other nodes, clocks. All that
+/// was made before the one that fails comes back.
 #[test]
 fn a_maker_fails(rt: HostRuntime) -> Result<(), Fail> {
     let settings = ServeSettings {
         udp: Some(SERVER),
         http: Some(SERVER),
+        sync: Some(SYNC),
         ..USUAL
     };
-    for (failing, wires, listeners) in [(0, 0, 0), (1, 1, 0), (2, 1, 1), (3, 1, 1)] {
+    for (failing, wires, listeners) in [(0, 0, 0), (1, 1, 0), (2, 1, 1), (3, 3, 1)] {
         let mut outside = outside(rt.alloc(), &[failing])?;
-        outside.add_wire(wire(rt.alloc(), &[ANNOUNCE], &[])?)?;
-        outside.add_listener(listener(rt.alloc(), 1, &[], &[])?)?;
+        for _ in 0..3 {
+            outside.add_wire(wire(rt.alloc(), CLIENT, &[ANNOUNCE], &[])?)?;
+        }
+        outside.add_listener(listener(rt.alloc())?)?;
         let run = serve(&rt, rt.alloc(), &settings, &mut outside)?;
         assert_eq!(&rt; run.status, Status::Device, "{failing}");
         assert_eq!(&rt; run.err.as_slice(), NO_DEVICE, "{failing}");
@@ -46,10 +49,11 @@ fn reply(number: u8, seeders: u8) -> [u8; 20] {
     bytes
 }
 
-/// The summary where so many seeders take part in one torrent.
+/// The summary where so many seeders take part in one torrent. The bucket was cleaned twice.
 fn summary(alloc: Global, seeders: usize) -> Result<String, AllocError> {
     let torrents = seeders.min(1);
-    format!(in alloc; "torrents {torrents} complete {seeders} incomplete 0 calls {seeders}\n")
+    let calls = seeders.saturating_add(2);
+    format!(in alloc; "torrents {torrents} complete {seeders} incomplete 0 calls {calls}\n")
 }
 
 /// Three datagrams wait, so that each even call is a receive and each odd one a send. Where a send
@@ -60,7 +64,7 @@ fn a_call_of_a_wire_fails(rt: HostRuntime) -> Result<(), Fail> {
     for failing in 0..7 {
         let mut outside = outside(rt.alloc(), &[])?;
         let waiting = [announce(0), announce(1), announce(2)];
-        outside.add_wire(wire(rt.alloc(), &waiting, &[failing])?)?;
+        outside.add_wire(wire(rt.alloc(), CLIENT, &waiting, &[failing])?)?;
         let run = serve(&rt, rt.alloc(), &UDP, &mut outside)?;
         assert_eq!(&rt; run.status, Status::Done, "{failing}");
         assert_eq!(&rt; outside.wires_back().len(), 1, "{failing}");
@@ -86,45 +90,6 @@ fn a_call_of_a_wire_fails(rt: HostRuntime) -> Result<(), Fail> {
     Ok(())
 }
 
-/// The number of no call.
-const NEVER: u64 = u64::MAX;
-
-/// Three connections wait with one seeder's request. Where `accept` fails none is lost: the server
-/// may end there, and then the others weren't accepted. Of the second connection the first call is
-/// a read and the second one a write: its reply alone is missing.
-#[test]
-fn a_call_of_a_listener_fails(rt: HostRuntime) -> Result<(), Fail> {
-    for (accept, call) in [
-        (0, NEVER),
-        (1, NEVER),
-        (2, NEVER),
-        (3, NEVER),
-        (NEVER, 0),
-        (NEVER, 1),
-    ] {
-        let mut outside = outside(rt.alloc(), &[])?;
-        outside.add_listener(listener(rt.alloc(), 3, &[accept], &[call])?)?;
-        let run = serve(&rt, rt.alloc(), &HTTP, &mut outside)?;
-        assert_eq!(&rt; run.status, Status::Done, "{accept} {call}");
-        assert_eq!(&rt; outside.listeners_back().len(), 1, "{accept} {call}");
-        let listener = &outside.listeners_back()[0];
-        assert_eq!(&rt;
-            listener.faults(),
-            u64::from(accept < NEVER),
-            "{accept} {call}"
-        );
-        let finished = listener.finished();
-        assert!(&rt; finished.len() as u64 >= accept.min(3), "{accept} {call}");
-        for (number, link) in finished.iter().enumerate() {
-            let is_lost = number == 1 && call < NEVER;
-            let want = if is_lost { &[] } else { REPLY };
-            assert_eq!(&rt; link.written(), want, "{accept} {call}");
-            assert_eq!(&rt; link.faults(), u64::from(is_lost), "{accept} {call}");
-        }
-    }
-    Ok(())
-}
-
 /// The input is three bytes, each read by itself, and its end. Where a read fails the server ends
 /// as at the end, and tells it. A fault of the output keeps the front of the summary, and a fault
 /// of the input goes before it.
@@ -142,7 +107,7 @@ fn the_input_or_the_output_fails(rt: HostRuntime) -> Result<(), Fail> {
         (0, 1, read_fault, &ONE_SEEDER[..20]),
     ] {
         let mut outside = outside(rt.alloc(), &[])?;
-        outside.add_wire(wire(rt.alloc(), &[ANNOUNCE], &[])?)?;
+        outside.add_wire(wire(rt.alloc(), CLIENT, &[ANNOUNCE], &[])?)?;
         let failing = [read];
         let mut input = MemSource::new(b"ab\n", &[1, 1, 1], &failing);
         let run = serve_with(&rt, rt.alloc(), &UDP, &mut input, &[write], &mut outside)?;

@@ -1,13 +1,12 @@
 //! A seat, through what answers requests knows of a tracker.
 
-ghost use Rattle.std.specs.Prelude.{◌≡◌, ◌<◌, ◌^◌, false};
+ghost use Rattle.std.specs.Prelude.{◌<◌, ◌^◌};
 
 use super::*;
 use tracker_model::Tracker;
 
 /// Announces a peer to a tracker, and asks for it in each other way.
 fn visit<R: Abort, T: Tracker>(rt: &R, tracker: &mut T, bucket: u32) -> Result<(), AllocError>
-    requires alone { (T.settings tracker.old).sync ≡ false }
     requires within { bucket < 2 ^ T.bits tracker.old }
 {
     let told = tracker.report(Minute(0), announce(A, 1), &WORDS);

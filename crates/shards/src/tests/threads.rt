@@ -83,7 +83,7 @@ fn hold<R: Wait>(
     requires lock { turn.old.lock ≡ lock.now }
     requires free { turn.old.holds ≡ false }
     requires first { turn.old.caller ≡ 0 }
-    requires settings { (g : Settings) × (g.sync ≡ false) × (lock.now.settings ≡ numbers_of g) }
+    requires settings { (g : Settings) × (lock.now.settings ≡ numbers_of g) }
 {
     let mut bucket = lock.take(rt, turn);
     taken.store(true, Ordering::SeqCst);

@@ -1,5 +1,5 @@
 -- The new torrent stands last, and the index says so.
-use Rattle.std.proofs.Common.{◌≡◌, ℕ, ◌∷◌, [], ◌++◌, List, Option, Some, sym, ◌∙◌, ap, subst, length}
+use Rattle.std.proofs.Common.{◌≡◌, ℕ, ◌∷◌, [], ◌++◌, List, Some, sym, ◌∙◌, ap, subst, length}
 use Rattle.std.proofs.lemmas.List.{map-append, length-map}
 use Rattle.age_ring.specs.Ring.{Ring, items_of}
 use Rattle.ot_base.specs.declared.hash.InfoHash.{InfoHash}

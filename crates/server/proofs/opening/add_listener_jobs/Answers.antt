@@ -1,5 +1,5 @@
 -- One more job has the next pass and the next clock.
-use Rattle.std.proofs.Common.{rules, ◌≡◌, ◌∙◌, ◌++◌, [], ◌∷◌, length, sym, ap, subst, append_assoc, append-nil, vec_len, arith}
+use Rattle.std.proofs.Common.{rules, ◌≡◌, ◌∙◌, ◌++◌, [], ◌∷◌, length, refl, sym, ap, subst, append_assoc, append-nil, vec_len, arith}
 use Rattle.std.proofs.lemmas.Iterator.Adapters.{YieldsList-from_vec}
 use Rattle.std.proofs.lemmas.Iterator.Consumers.{YieldsList-end}
 use Rattle.std.proofs.lemmas.List.{length_push, length-append}
@@ -12,8 +12,8 @@ use Rattle.server.proofs.opening.add_listener_jobs.Goals as goal
 pub loop-listener-init : goal.loop-listener-init
 loop-listener-init g c = record {
   all = search rules;
-  jobs = ([], [], sym (append-nil c.args.room.items), search rules, tt);
-  clocks = search rules;
+  jobs = ([], [], sym (append-nil c.args.room.items), refl, tt);
+  clocks = omega arith;
   capacity = omega arith;
 }
 
@@ -22,7 +22,17 @@ take_next-pass-requires g c =
     let was = c.loop-listener.invariant.jobs in
     let long = link_long c.loop-listener.yielded was.1 was.0 was.4 in
     let all : c.args.listeners.items ≡ c.loop-listener.yielded ++ c.in-Some.listener ∷ c.next.new.self.rest.items = search rules in
-    some_left c.args.listeners.items c.loop-listener.yielded c.next.new.self.rest.items c.in-Some.listener c.args.passes.items was.1 (into_iter_items c.loop-listener.passes) (vec_len c.args.passes) (vec_len c.args.listeners) (search rules) (search rules) c.requires.passes all was.3 long.0
+    let k : vec_len c.args.listeners ≡ length c.args.listeners.items = search rules in
+    some_left c.args.listeners.items c.loop-listener.yielded c.next.new.self.rest.items c.in-Some.listener (into_iter_items c.args.passes.now) was.1 (into_iter_items c.loop-listener.passes) (let l = c.requires.passes in omega arith) all was.3 long.0
+
+pub take_next-clock-requires : goal.take_next-clock-requires
+take_next-clock-requires g c =
+    let all : c.args.listeners.items ≡ c.loop-listener.yielded ++ c.in-Some.listener ∷ c.next.new.self.rest.items = search rules in
+    let a = ap length all in
+    let b = length-append c.loop-listener.yielded (c.in-Some.listener ∷ c.next.new.self.rest.items) in
+    let d = c.loop-listener.invariant.clocks in
+    let k : vec_len c.args.listeners ≡ length c.args.listeners.items = search rules in
+    let l = c.requires.clocks in omega arith
 
 pub push_reserved-requires : goal.push_reserved-requires
 push_reserved-requires g c =
@@ -60,12 +70,17 @@ loop-listener-preserved g c =
       capacity = (let a = c.loop-listener.invariant.capacity in let b = c.push_reserved.ensures.capacity in omega arith);
     }
 
-pub returns : goal.returns
-returns g c =
+pub returns-clause-jobs : goal.returns-clause-jobs
+returns-clause-jobs g c =
     let was = c.loop-listener.invariant.jobs in
     let long = link_long c.loop-listener.yielded was.1 was.0 was.4 in
     let ends = YieldsList-end (YieldsList-from_vec {s = c.into_iter-listener-iterator.result} c.args.listeners.items (cc) (cc)) c.loop-listener.yielded c.loop-listener.listener-iterator c.loop-listener.yielded_by c.next.result c.next.new.self c.in-None.is c.next.ensures.steps in
     let whole : c.loop-listener.yielded ≡ c.args.listeners.items = all_gone c.args.listeners.items c.loop-listener.yielded c.loop-listener.listener-iterator.rest.items c.loop-listener.invariant.all (sym ends.1) in
-    let of : length c.args.passes.items ≡ length c.args.listeners.items = search rules in
-    let gone : was.1 ≡ c.args.passes.items = all_gone c.args.passes.items was.1 (into_iter_items c.loop-listener.passes) was.3 (of ∙ sym (ap length whole) ∙ sym long.0) in
-    record { jobs = (was.0, was.2, subst (λ l. AreLinkJobs l c.args.passes.items was.0) whole (subst (λ l. AreLinkJobs c.loop-listener.yielded l was.0) gone was.4)) }
+    record {
+      jobs = was.0;
+      taken = was.1;
+      added = subst (λ l. AreLinkJobs l was.1 was.0) whole was.4;
+      room_is = was.2;
+      passes_are = was.3;
+      clocks_gone = (let a = c.loop-listener.invariant.clocks in let b = long.1 in omega arith);
+    }

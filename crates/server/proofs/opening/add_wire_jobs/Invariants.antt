@@ -10,8 +10,8 @@ abbrev pub invariant-loop-wire : goal.invariant-loop-wire
 invariant-loop-wire g l = record {
   all : l.fn.wires.items ≡ l.yielded ++ l.wire-iterator.rest.items;
   jobs : (jobs : List (Job g.row.W.Denot g.row.L.Denot g.row.C.Denot)) × (done : List PassShape)
-      × (l.room.items ≡ l.fn.room.items ++ jobs) × (l.fn.passes.items ≡ done ++ into_iter_items l.passes)
+      × (l.room.items ≡ l.fn.room.items ++ jobs) × (into_iter_items l.fn.passes ≡ done ++ into_iter_items l.passes)
       × AreWireJobs l.yielded done jobs;
-  clocks : length (into_iter_items l.clocks) + length l.yielded ≡ length l.fn.clocks.items;
+  clocks : length (into_iter_items l.clocks) + length l.yielded ≡ length (into_iter_items l.fn.clocks);
   capacity : vec_capacity l.fn.room ≤ vec_capacity l.room;
 }

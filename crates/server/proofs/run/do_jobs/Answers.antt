@@ -1,14 +1,15 @@
 -- The jobs are the same workers once they have run, each with what became of it.
 use denote.Exit as exit
 use denote.Param.Send.{arg_send, param_send, sendable}
-use Rattle.std.proofs.Common.{All, length, map, reverse, sym, ap, subst, ◌∙◌}
+use Rattle.std.proofs.Common.{All, drop, length, map, reverse, sym, ap, subst, ◌∙◌}
+use Rattle.std.proofs.lemmas.List.{take_at}
 use Rattle.ot_io.specs.Lending.{AreOut, Lends}
 use Rattle.ot_io.specs.Tales.{listener_tale}
 use Rattle.ot_io.specs.Traffic.{wire_tale}
 use Rattle.shards.specs.Joining.{AreJoined}
 use Rattle.server.specs.Teams.{IsWorker, listeners_of, pass_of, wires_of}
 use Rattle.server.proofs.Crossing.{job_send}
-use Rattle.server.proofs.TeamLemmas.{keep_all, ran_from, written_back}
+use Rattle.server.proofs.TeamLemmas.{keep_all, ran_from}
 use Rattle.server.proofs.run.do_jobs.Goals as goal
 
 pub work-end-requires-send-J : goal.work-end-requires-send-J
@@ -20,8 +21,8 @@ end_jobs-requires-clause-workers g c =
     let jobs = c.args.jobs.items in
     let worked = c.work-end.new.tasks in
     let lent = c.as_mut_slice.ensures in
-    let back = written_back c.args.jobs.len c.as_mut_slice.result.now jobs worked lent.value lent.len c.work-end.ensures.ran.count in
-    let kept = keep_all _ _ _ _ _ _ _ c.args.shards.now jobs worked (ran_from lent.value c.work-end.ensures.ran) in
+    let back = take_at worked (drop (length worked) jobs) c.args.jobs.len (c.work-end.ensures.ran.count ∙ lent.len) in
+    let kept = keep_all _ _ _ _ _ _ c.args.shards.now jobs worked (ran_from lent.value c.work-end.ensures.ran) in
     subst (All (IsWorker c.args.shards.now)) (sym back) (kept.workers c.requires.workers)
 
 pub end_jobs-requires-clause-wires_out : goal.end_jobs-requires-clause-wires_out
@@ -29,8 +30,8 @@ end_jobs-requires-clause-wires_out g c =
     let jobs = c.args.jobs.items in
     let worked = c.work-end.new.tasks in
     let lent = c.as_mut_slice.ensures in
-    let back = written_back c.args.jobs.len c.as_mut_slice.result.now jobs worked lent.value lent.len c.work-end.ensures.ran.count in
-    let kept = keep_all _ _ _ _ _ _ _ c.args.shards.now jobs worked (ran_from lent.value c.work-end.ensures.ran) in
+    let back = take_at worked (drop (length worked) jobs) c.args.jobs.len (c.work-end.ensures.ran.count ∙ lent.len) in
+    let kept = keep_all _ _ _ _ _ _ c.args.shards.now jobs worked (ran_from lent.value c.work-end.ensures.ran) in
     subst (AreOut (g.N.Outside.wires_lent c.args.outside.now)) (sym (ap (λ l. length (wires_of l)) back ∙ kept.wires)) c.requires.wires_out
 
 pub end_jobs-requires-clause-listeners_out : goal.end_jobs-requires-clause-listeners_out
@@ -38,8 +39,8 @@ end_jobs-requires-clause-listeners_out g c =
     let jobs = c.args.jobs.items in
     let worked = c.work-end.new.tasks in
     let lent = c.as_mut_slice.ensures in
-    let back = written_back c.args.jobs.len c.as_mut_slice.result.now jobs worked lent.value lent.len c.work-end.ensures.ran.count in
-    let kept = keep_all _ _ _ _ _ _ _ c.args.shards.now jobs worked (ran_from lent.value c.work-end.ensures.ran) in
+    let back = take_at worked (drop (length worked) jobs) c.args.jobs.len (c.work-end.ensures.ran.count ∙ lent.len) in
+    let kept = keep_all _ _ _ _ _ _ c.args.shards.now jobs worked (ran_from lent.value c.work-end.ensures.ran) in
     subst (AreOut (g.N.Outside.listeners_lent c.args.outside.now)) (sym (ap (λ l. length (listeners_of l)) back ∙ kept.listeners)) c.requires.listeners_out
 
 pub returns-clause-ran : goal.returns-clause-ran
@@ -47,7 +48,7 @@ returns-clause-ran g c =
     let jobs = c.args.jobs.items in
     let worked = c.work-end.new.tasks in
     let lent = c.as_mut_slice.ensures in
-    let back = written_back c.args.jobs.len c.as_mut_slice.result.now jobs worked lent.value lent.len c.work-end.ensures.ran.count in
+    let back = take_at worked (drop (length worked) jobs) c.args.jobs.len (c.work-end.ensures.ran.count ∙ lent.len) in
     let outside = g.N.Outside in
     let ended = c.end_jobs.ensures in record {
       ended = worked;

@@ -2,11 +2,13 @@
 use Rattle.std.proofs.Common.{[], sym, subst}
 use Rattle.tracker_model.proofs.StandsLemmas.{stands_first}
 use Rattle.tracker_model.specs.Stands.{StandsFor}
+use Rattle.bucket.specs.Outbox.{OutboxShape, empty_outbox}
 use Rattle.bucket.specs.Table.{Table}
 use Rattle.bucket.proofs.CallLaws.{bucket_of}
 use Rattle.bucket.proofs.bucket.Bucket.new.Goals as goal
 
 pub returns-clause-stands : goal.returns-clause-stands
 returns-clause-stands c =
-    let P : Table → Type 0 = λ t. StandsFor [] (bucket_of c.args.sync t) in
-    subst P (sym c.in_ok-new.ensures) (stands_first (record { limits = c.args.limits; sync = c.args.sync }))
+    let P : OutboxShape → Type 0 = λ o. StandsFor [] (bucket_of o c.in_ok-new.field-0) in
+    let Q : Table → Type 0 = λ t. StandsFor [] (bucket_of (empty_outbox c.args.sync) t) in
+    subst P (sym c.new-2.ensures) (subst Q (sym c.in_ok-new.ensures) (stands_first (record { limits = c.args.limits; sync = c.args.sync })))

@@ -1,5 +1,5 @@
 -- One peer, and the limit is one at least.
-use Rattle.std.proofs.Common.{◌≡◌, ◌<◌, ◌≤◌, ℕ, inr, ap, arith, sym, ◌∙◌, refl}
+use Rattle.std.proofs.Common.{◌≡◌, inr, ap, arith, ◌∙◌}
 use Rattle.swarm.specs.Shape.{peer_count}
 use Rattle.bucket.specs.Stored.{empty_stored, put_stored}
 use Rattle.bucket.specs.declared.stored.Stored.{Stored}

@@ -1,6 +1,5 @@
 -- The torrent that its first peer makes stands last.
-use Rattle.std.proofs.Common.{◌≡◌, ℕ, ◌+◌, ◌<◌, ◌≤◌, List, Result, refl, subst, sym, ap, ◌∙◌, length, arith}
-use Rattle.age_ring.specs.Ring.{items_of}
+use Rattle.std.proofs.Common.{◌≡◌, ℕ, ◌<◌, List, Result, refl, subst, sym, ap, ◌∙◌, length, arith}
 use Rattle.ot_base.specs.declared.hash.InfoHash.{InfoHash}
 use Rattle.bucket.specs.Calls.{Adds, Stays}
 use Rattle.bucket.specs.Index.{IsIndexed, place_in}

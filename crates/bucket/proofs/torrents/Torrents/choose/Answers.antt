@@ -2,7 +2,6 @@
 use Rattle.std.proofs.Common.{◌≡◌, ◌<◌, ◌∙◌, ap, length, arith}
 use Rattle.ot_base.specs.Address.{family_of}
 use Rattle.swarm.specs.Peers.{choice_of}
-use Rattle.bucket.specs.Table.{Table}
 use Rattle.bucket.specs.Torrents.{of_family}
 use Rattle.bucket.proofs.PlaceLemmas.{at_place, family_by, stands_at, within_list}
 use Rattle.bucket.proofs.torrents.Torrents.choose.Goals as goal

@@ -1,6 +1,5 @@
 -- The counts are those of what is stored at the place.
-use Rattle.std.proofs.Common.{◌≡◌, ◌<◌, ap, length, arith}
-use Rattle.bucket.specs.Table.{Table}
+use Rattle.std.proofs.Common.{◌≡◌, ◌<◌, length, arith}
 use Rattle.bucket.specs.Torrents.{tally}
 use Rattle.bucket.proofs.PlaceLemmas.{at_place, stands_at, tally_by, within_list}
 use Rattle.bucket.proofs.torrents.Torrents.counts.Goals as goal

@@ -1,5 +1,5 @@
 -- Minute by minute, and then on to the time.
-use Rattle.std.proofs.Common.{◌≡◌, ◌+◌, ◌≤◌, sym, ◌∙◌, ap, arith}
+use Rattle.std.proofs.Common.{◌+◌, ◌≤◌, sym, ◌∙◌, ap, arith}
 use Rattle.bucket.specs.Index.{place_in}
 use Rattle.bucket.specs.Table.{Table}
 use Rattle.bucket.proofs.ForgetLemmas.{forgets_later, forgets_more, forgets_none}

@@ -1,6 +1,5 @@
 -- A torrent's place is what the index tells.
 use Rattle.std.proofs.Common.{List, sym, ◌∙◌, subst}
-use Rattle.age_ring.specs.Ring.{items_of}
 use Rattle.ot_base.specs.declared.hash.InfoHash.{InfoHash}
 use Rattle.bucket.specs.Index.{IsIndexed, place_in}
 use Rattle.bucket.specs.Table.{torrents_by}

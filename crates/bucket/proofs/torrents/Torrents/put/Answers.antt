@@ -1,10 +1,8 @@
 -- The endpoint joins what is stored at the place, and the ring renews the torrent's touch.
-use Rattle.std.proofs.Common.{◌≡◌, ℕ, ◌<◌, ◌≤◌, Result, refl, subst, sym, ap, ◌∙◌, length, arith, get_or, set}
-use Rattle.ot_base.specs.declared.hash.InfoHash.{InfoHash}
+use Rattle.std.proofs.Common.{ℕ, Result, refl, subst, sym, ap, arith, get_or, set}
 use Rattle.bucket.specs.Calls.{JoinsAt}
 use Rattle.bucket.specs.Index.{place_in}
 use Rattle.bucket.specs.Stored.{IsFit, JoinsStored}
-use Rattle.bucket.specs.Table.{IsKept, Table, torrents_by}
 use Rattle.bucket.specs.declared.joining.JoinError.{JoinError}
 use Rattle.bucket.specs.declared.stored.Stored.{Stored}
 use Rattle.bucket.proofs.DropLemmas.{some_at}

@@ -1,12 +1,10 @@
 -- The peers that aren't live go from what is stored at the place.
-use Rattle.std.proofs.Common.{◌≡◌, ℕ, ◌<◌, ◌≤◌, refl, subst, sym, ap, length, arith}
-use Rattle.tracker_model.specs.Shape.{Torrent}
+use Rattle.std.proofs.Common.{ℕ, refl, subst, sym, ap, arith}
 use Rattle.bucket.specs.Index.{place_in}
 use Rattle.bucket.specs.Stored.{IsFit, torrent_by}
-use Rattle.bucket.specs.Table.{IsKept, Table}
 use Rattle.bucket.specs.Torrents.{Freshens}
 use Rattle.bucket.specs.declared.stored.Stored.{Stored}
-use Rattle.bucket.proofs.PlaceLemmas.{StandsAt, kept_set, stands_at, stays_by, turns_set, within_list}
+use Rattle.bucket.proofs.PlaceLemmas.{kept_set, stands_at, stays_by, turns_set, within_list}
 use Rattle.bucket.proofs.torrents.Torrents.refresh.Goals as goal
 
 pub index_mut-requires : goal.index_mut-requires

@@ -1,13 +1,12 @@
 -- The index's entries are in order, and each tells the place of its torrent.
-use Rattle.std.proofs.Common.{◌≡◌, ℕ, ◌<◌, List, ◌∷◌, [], ◌++◌, Some, refl, sym, ap, subst, ◌∙◌, length, map, arith, rules}
+use Rattle.std.proofs.Common.{◌≡◌, ℕ, ◌<◌, List, ◌∷◌, [], ◌++◌, refl, sym, subst, length, map, arith, rules}
 use Rattle.std.specs.BTreeMap as tree
-use Rattle.std.specs.List.{AllZip, slice_get}
+use Rattle.std.specs.List.{AllZip}
 use Rattle.std.specs.Map.Iter.{deref_pair}
 use Rattle.std.proofs.lemmas.List.{length-map, map_push}
 use Rattle.std.proofs.lemmas.Map.Iter.{btree_map_turn, iter_end}
 use Rattle.std.proofs.lemmas.Option.{slice_get_read, slice_get_within}
 use Rattle.age_ring.specs.Ring.{items_of}
-use Rattle.ot_base.specs.Order.{hash_cmp}
 use Rattle.ot_base.specs.declared.hash.InfoHash.{InfoHash}
 use Rattle.ot_base.specs.declared.peer.Row.{Row}
 use Rattle.ot_base.proofs.OrderLemmas.{hash_cmp_total}

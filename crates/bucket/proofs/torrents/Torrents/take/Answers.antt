@@ -1,6 +1,5 @@
 -- The endpoint goes from what is stored at the place.
-use Rattle.std.proofs.Common.{◌≡◌, ℕ, ◌<◌, ◌≤◌, refl, subst, sym, ap, ◌∙◌, length, arith}
-use Rattle.tracker_model.specs.Shape.{Torrent}
+use Rattle.std.proofs.Common.{◌≡◌, refl, subst, sym, ap, ◌∙◌, arith}
 use Rattle.bucket.specs.Index.{place_in}
 use Rattle.bucket.specs.Stored.{IsFit, torrent_by}
 use Rattle.bucket.specs.Torrents.{without_peer}

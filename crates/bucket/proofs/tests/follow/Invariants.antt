@@ -1,6 +1,0 @@
--- The bucket goes on without sync.
-use Rattle.std.proofs.Common.{◌≡◌, false}
-use Rattle.bucket.proofs.tests.follow.Given as goal
-
-abbrev pub invariant-loop-label : goal.invariant-loop-label
-invariant-loop-label g l = l.bucket.settings.sync ≡ false

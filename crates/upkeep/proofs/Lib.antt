@@ -1,0 +1,7 @@
+mod Draining
+mod Lists
+mod Places
+mod Sending
+mod Sweeping
+mod Syncing
+mod Turning

@@ -1,0 +1,18 @@
+-- Lists.
+use Rattle.std.proofs.Common.{List, [], ◌∷◌, ◌++◌}
+use Rattle.std.specs.List.{AllByRecursion}
+use Rattle.ot_base.specs.declared.address.Addr.TheVariants.{V4}
+use Rattle.ot_base.specs.declared.address.Endpoint.{Endpoint}
+use Rattle.ot_base.specs.declared.peer.Mark.TheVariants.{Leecher}
+use Rattle.ot_base.specs.declared.peer.Note.{Note}
+
+-- what stands where a list has none
+abbrev pub no_node : Endpoint
+no_node = record { addr = V4 []; port = 0 }
+
+abbrev pub no_note : Note
+no_note = record { hash = record { 0 = [] }; who = no_node; mark = Leecher }
+
+pub all_append : {X : Type 0} (P : X → Type 0) (xs ys : List X) → AllByRecursion P xs → AllByRecursion P ys → AllByRecursion P (xs ++ ys)
+all_append P [] ys first then = then
+all_append P (x ∷ xs) ys first then = (first.0, all_append P xs ys first.1 then)

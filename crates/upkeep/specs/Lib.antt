@@ -1,0 +1,5 @@
+pub mod Heard
+pub mod Hearing
+pub mod Nodes
+pub mod Sweeps
+pub mod Telling
