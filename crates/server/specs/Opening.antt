@@ -1,5 +1,5 @@
 -- How the jobs of a server begin.
-use Rattle.std.specs.Prelude.{◌≡◌, ℕ, ◌+◌, ◌^◌, ◌≤◌, List, [], ◌∷◌, ◌++◌, length, vec_capacity}
+use Rattle.std.specs.Prelude.{◌≡◌, ℕ, ◌+◌, ◌≤◌, List, [], ◌∷◌, ◌++◌, length, vec_capacity}
 use Rattle.ot_io.specs.declared.settings.ServeSettings.{ServeSettings}
 use Rattle.shards.specs.Shape.{KnowsNumbers, PassShape, ShardsShape, first_pass, new_passes}
 use Rattle.serve.specs.declared.job.Job.{Job}

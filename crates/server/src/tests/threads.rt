@@ -291,9 +291,10 @@ fn two_workers_answer_each_other(rt: HostRuntime) -> Result<(), Fail> {
     Ok(())
 }
 
-/// The input ends once another node was told of the one announce. What it tells is heard.
+/// The sender of a server that runs really sends: the input ends only once another node was told of
+/// the one announce. What that node tells is heard.
 #[test]
-fn nodes_share_what_they_know(rt: HostRuntime) -> Result<(), Fail> {
+fn serve_syncs(rt: HostRuntime) -> Result<(), Fail> {
     let (is_answered, is_told) = (AtomicBool::new(true), AtomicBool::new(false));
     let mut outside = Watching {
         alloc: rt.alloc(),

@@ -1,5 +1,5 @@
 -- The wires of workers came back, then the listeners, then the other wires.
-use Rattle.std.proofs.Common.{◌≡◌, ◌∙◌, map, refl, sym, rules}
+use Rattle.std.proofs.Common.{◌∙◌, map, sym}
 use Rattle.std.proofs.lemmas.List.{length-map}
 use Rattle.ot_io.specs.Tales.{ListenerTale, listener_tale}
 use Rattle.ot_io.specs.Traffic.{WireTale, wire_tale}

@@ -1,5 +1,5 @@
 -- The jobs have what was opened for them, and what they did makes what a server does.
-use Rattle.std.proofs.Common.{All, ◌≡◌, ◌∙◌, ◌+◌, length, sym, ap, subst, vec_len, length-append, arith}
+use Rattle.std.proofs.Common.{All, ◌≡◌, ◌∙◌, length, sym, ap, subst, vec_len, length-append, arith}
 use Rattle.std.specs.Option.{option_copied}
 use Rattle.ot_io.specs.Lending.{AreOut}
 use Rattle.shards.specs.Shape.{PassShape}
