@@ -1,8 +1,9 @@
 //! What no clause says: datagrams byte for byte, that each call succeeds, and when the jobs end.
 
-ghost use Rattle.std.specs.Prelude.{◌≡◌, IfOk, false, [], ◌∷◌};
+ghost use Rattle.std.specs.Prelude.{◌≡◌, ◌<◌, IfOk, false, true, [], ◌∷◌};
 ghost use Rattle.ot_base.specs.declared.address.Addr.TheVariants.{V4};
 ghost use Rattle.shards.specs.Shape.{first_pass};
+ghost use Rattle.tracker_model.specs.Calls.{IsWellFormed, names_torrent};
 
 mod hearing;
 mod jobs;
@@ -17,7 +18,7 @@ use std::process::Abort;
 use std::sync::Wait;
 use std::test::Fail;
 use sync_wire::SyncFault;
-use tracker_model::Call;
+use tracker_model::{Answer, Call};
 
 /// A torrent. It is of bucket 0.
 const HASH: InfoHash = InfoHash([0x11; 20]);
@@ -111,19 +112,68 @@ impl Batch {
     }
 }
 
-/// Hears so many datagrams of a wire in minute 0, and checks what was done. Gives the torrent's
-/// counts after that.
+/// Makes a call on a torrent in minute 0. Gives how many calls its bucket had before, or that there
+/// was no memory for this one.
+fn ask<R: Wait>(rt: &R, shards: &Shards, pass: &mut Pass, call: Call) -> Result<u64, AllocError>
+    requires pass { pass.old.shards ≡ shards.now }
+    requires formed { IsWellFormed call }
+    requires named { names_torrent call ≡ true }
+    ensures { pass.new.shards ≡ shards.now }
+{
+    let done = shards.call(rt, pass, Minute(0), call, &[0; 200]);
+    match done.answer {
+        Answer::NoMemory => Err(AllocError),
+        _ => Ok(done.place),
+    }
+}
+
+/// The announce of a seed of this port, who wants no peers.
+fn announce(port: u16) -> Call
+    requires { 0 < port }
+    ensures formed { IsWellFormed result }
+    ensures named { names_torrent result ≡ true }
+{
+    Call::Announce {
+        hash: HASH,
+        who: at(port),
+        seed: true,
+        completed: false,
+        want: 0,
+    }
+}
+
+/// Hears so many datagrams of a wire in minute 0, and checks what was done, up to the first for which
+/// there is no memory.
 fn hear_each<R: Wait + Abort>(
+    rt: &R,
+    shards: &Shards,
+    pass: &mut Pass,
+    wire: &mut MemWire,
+    want: &[SyncIn],
+) -> Result<(), AllocError>
+    requires { pass.old.shards ≡ shards.now }
+    ensures { pass.new.shards ≡ shards.now }
+{
+    'heard: for (number, want) in want.iter().enumerate() {
+        let heard = sync_in_turn(rt, shards, pass, wire, OWN, &[NODE], Minute(0));
+        if matches!(heard, SyncIn::NoMemory { .. }) {
+            return Err(AllocError);
+        }
+        assert_eq!(rt; heard, *want, "{number}");
+    }
+    Ok(())
+}
+
+/// The same in new buckets. Gives the torrent's counts after that, and how many calls its bucket had.
+fn hear_anew<R: Wait + Abort>(
     rt: &R,
     alloc: Global,
     wire: &mut MemWire,
     want: &[SyncIn],
-) -> Result<Counts, AllocError> {
+) -> Result<(Counts, u64), AllocError> {
     let (shards, mut pass) = shards(alloc)?;
-    'heard: for (number, want) in want.iter().enumerate() {
-        let heard = sync_in_turn(rt, &shards, &mut pass, wire, OWN, &[NODE], Minute(0));
-        assert_eq!(rt; heard, *want, "{number}");
-    }
+    hear_each(rt, &shards, &mut pass, wire, want)?;
+    let calls = ask(rt, &shards, &mut pass, Call::Scrape { hash: HASH })?;
     let (counts, _) = shards.scrape(rt, &mut pass, Minute(0), &HASH);
-    Ok(counts)
+    Ok((counts, calls))
 }

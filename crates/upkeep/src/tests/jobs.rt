@@ -51,14 +51,7 @@ fn work<R: Wait>(
     pauses: u32,
 ) -> Result<u64, AllocError> {
     let (shards, mut pass) = shards(alloc)?;
-    let announce = Call::Announce {
-        hash: HASH,
-        who: at(SEED.port),
-        seed: true,
-        completed: false,
-        want: 0,
-    };
-    shards.call(rt, &mut pass, Minute(0), announce, &[0; 200]);
+    ask(rt, &shards, &mut pass, announce(SEED.port))?;
     let stop = AtomicBool::new(pauses == 0);
     let mut clock = Bell {
         seconds: 0,
@@ -74,12 +67,7 @@ fn work<R: Wait>(
             rt, &shards, &mut pass, wire, &mut clock, OWN, &nodes, &stop,
         ),
     }
-    let scrape = Call::Scrape { hash: HASH };
-    Ok(
-        shards
-            .call(rt, &mut pass, Minute(0), scrape, &[0; 200])
-            .place,
-    )
+    ask(rt, &shards, &mut pass, Call::Scrape { hash: HASH })
 }
 
 #[test]

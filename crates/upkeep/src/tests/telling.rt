@@ -1,39 +1,46 @@
 //! What is told, and how it crosses to another node.
 
-ghost use Rattle.std.specs.Prelude.{◌≤◌, length};
+ghost use Rattle.std.specs.Prelude.{◌≡◌, ◌≤◌, length};
 
 use super::*;
 use ot_io::NODES;
 
-/// Seeds of these ports are announced, and then perhaps the one of port 1 stops. What their bucket
-/// keeps of that is told these nodes.
+/// Seeds are announced, so many times, from ports 1 to 120 in turn.
+fn announce_each<R: Wait>(
+    rt: &R,
+    shards: &Shards,
+    pass: &mut Pass,
+    announces: u16,
+) -> Result<(), AllocError>
+    requires { pass.old.shards ≡ shards.now }
+    ensures { pass.new.shards ≡ shards.now }
+{
+    'seeds: for number in 0..announces {
+        ask(rt, shards, pass, announce(1 + number % 120))?;
+    }
+    Ok(())
+}
+
+/// Seeds are announced like this, and then perhaps the one of port 1 stops. What their bucket keeps
+/// of that is told these nodes.
 fn tell<R: Wait>(
     rt: &R,
     alloc: Global,
     wire: &mut MemWire,
     nodes: &[Endpoint],
-    seeds: u16,
+    announces: u16,
     stops: bool,
 ) -> Result<SyncOut, AllocError>
     requires few { length nodes.now ≤ NODES }
 {
     let (shards, mut pass) = shards(alloc)?;
-    'seeds: for port in 1..=seeds {
-        let call = Call::Announce {
-            hash: HASH,
-            who: at(port),
-            seed: true,
-            completed: false,
-            want: 0,
-        };
-        shards.call(rt, &mut pass, Minute(0), call, &[0; 200]);
-    }
+    announce_each(rt, &shards, &mut pass, announces)?;
     if stops {
-        let call = Call::Stop {
+        let stop = Call::Stop {
             hash: HASH,
             who: at(1),
         };
-        shards.call(rt, &mut pass, Minute(0), call, &[0; 200]);
+        ask(rt, &shards, &mut pass, stop)?;
     }
     Ok(sync_out_turn(rt, &shards, &mut pass, wire, OTHER, nodes, 0, Minute(0)))
 }
@@ -69,7 +76,7 @@ fn one_batch_crosses(rt: HostRuntime) -> Result<(), Fail> {
     sent_over(alloc, &announced, &mut incoming)?;
     let mut other = wire(alloc, incoming, 0, &[])?;
     let applied = |calls| SyncIn::Applied { calls, full: 0 };
-    let counts = hear_each(&rt, alloc, &mut other, &[applied(1)])?;
+    let (counts, _) = hear_anew(&rt, alloc, &mut other, &[applied(1)])?;
     assert_eq!(&rt; (counts.complete, counts.incomplete), (1, 0));
 
     let mut incoming = Vec::new(alloc);
@@ -78,7 +85,7 @@ fn one_batch_crosses(rt: HostRuntime) -> Result<(), Fail> {
     sent_over(alloc, &announced, &mut incoming)?;
     sent_over(alloc, &stopped, &mut incoming)?;
     let mut other = wire(alloc, incoming, 0, &[])?;
-    let counts = hear_each(&rt, alloc, &mut other, &[applied(1), applied(2)])?;
+    let (counts, _) = hear_anew(&rt, alloc, &mut other, &[applied(1), applied(2)])?;
     assert_eq!(&rt; (counts.complete, counts.incomplete), (0, 0));
     Ok(())
 }
@@ -111,5 +118,23 @@ fn each_batch_goes_to_every_node(rt: HostRuntime) -> Result<(), Fail> {
         assert_eq!(&rt; tell(&rt, alloc, &mut some, &nodes, 120, false)?, told);
         assert_eq!(&rt; some.sent().len(), count as usize);
     }
+    Ok(())
+}
+
+#[test]
+fn what_is_too_much_is_dropped(rt: HostRuntime) -> Result<(), Fail> {
+    // Of 4,100 notes the first 4,096 are told: 81 batches of 50, and one of 46 whose last is the
+    // sixteenth of 120 ports.
+    let alloc = rt.alloc();
+    let mut wire = wire(alloc, Vec::new(alloc), 82, &[])?;
+    let told = SyncOut::Sent {
+        datagrams: 82,
+        dropped: 4,
+    };
+    assert_eq!(&rt; tell(&rt, alloc, &mut wire, &[NODE], 4_100, false)?, told);
+    assert_eq!(&rt; wire.sent().len(), 82);
+    let last = wire.sent()[81].bytes.as_slice();
+    assert_eq!(&rt; last.len(), 1_296);
+    assert!(&rt; last.ends_with(&[0, 16, 0x80, 0]));
     Ok(())
 }
