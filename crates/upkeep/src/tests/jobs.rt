@@ -79,9 +79,10 @@ fn jobs_end_in_time(rt: HostRuntime) -> Result<(), Fail> {
         let calls = work(&rt, alloc, Task::Clean, &mut none, step, pauses)?;
         assert_eq!(&rt; calls, 1 + rounds, "cleaner, {step} {pauses}");
     }
-    // The round that begins with the flag up is the last. The first one has a note to send.
+    // The round that begins with the flag up is the last. The first one has a note to send. Between
+    // two there are five pauses, or less where the flag is up.
     let told = Batch { node: OWN, ..SEED }.incoming(alloc)?.bytes;
-    for (pauses, rounds) in [(0, 1), (1, 2), (3, 4)] {
+    for (pauses, rounds) in [(0, 1), (1, 2), (5, 2), (6, 3), (16, 5)] {
         let mut one = wire(alloc, Vec::new(alloc), 1, &[])?;
         let calls = work(&rt, alloc, Task::Send, &mut one, 60, pauses)?;
         assert_eq!(&rt; calls, 1 + rounds, "sender, {pauses}");
