@@ -1,5 +1,5 @@
 -- How what is written adds up, and what is known before the first phase.
-use Rattle.std.proofs.Common.{◌≡◌, ◌≢◌, ℕ, zero, suc, ◌+◌, ◌-◌, ◌*◌, ◌^◌, ◌<◌, ◌≤◌, List, [], ◌∷◌, ◌++◌, All, length, map, take, refl, sym, ap, subst, ◌∙◌, append_assoc, append-nil, length-append, get_or, arith}
+use Rattle.std.proofs.Common.{◌≡◌, ◌≢◌, ℕ, zero, suc, ◌+◌, ◌-◌, ◌*◌, ◌^◌, ◌≤◌, List, [], ◌∷◌, ◌++◌, All, length, map, take, refl, sym, ap, subst, ◌∙◌, append_assoc, append-nil, length-append, arith}
 use Rattle.std.proofs.KnownBytes.{Appends-trans}
 use Rattle.std.specs.Prelude.{Err, IfOk, Ok, Option, Result, reverse}
 use Rattle.std.specs.List.{flat_map, range_with_len, sum_by}
@@ -13,11 +13,11 @@ use Rattle.ot_io.specs.declared.status.Status.{Status}
 use Rattle.ot_io.specs.declared.status.Status.TheVariants.{Done, Words, NoMemory, ReadFault}
 use Rattle.ot_io.specs.declared.status.Status.TheVariants.{WriteFault, Line, TooLong, TooMuch, Device}
 use Rattle.ot_io.specs.declared.status.Status.TheVariants as status
-use Rattle.tracker_model.specs.Grows.{history_at}
 use Rattle.tracker_model.specs.declared.entry.Entry.{Entry}
 use Rattle.turn_lock.specs.Histories.{AllBelow}
 use Rattle.turn_lock.specs.Shape.{LockShape}
 use Rattle.shards.specs.Shape.{PassShape, ShardsShape, first_pass}
+use Rattle.shards.proofs.FirstPass.{nothing_seen}
 use Rattle.load_model.specs.Alike.{IsPart}
 use Rattle.load_model.specs.Load.{load_settings, requests}
 use Rattle.load_model.specs.Text.{phase_line, phase_lines, totals_after}
@@ -107,11 +107,6 @@ module _ (s : DrillSettings) where
 
 -- ---- before the first phase
 
-each_empty : (locks : List LockShape) (bucket : ℕ) → history_at (map (λ (lock : LockShape). []) locks) bucket ≡ []
-each_empty [] bucket = refl
-each_empty (lock ∷ locks) zero = refl
-each_empty (lock ∷ locks) (suc bucket) = each_empty locks bucket
-
 none_below : (n : ℕ) (locks : List LockShape) → All (AllBelow n) (map (λ (lock : LockShape). []) locks)
 none_below n locks = All-map (AllBelow n) (λ (lock : LockShape). []) locks (λ k d within. tt)
 
@@ -134,7 +129,7 @@ before_all s shards of_drill count = record {
   free = (let e : 1 ≡ 0 * s.workers + 1 = omega arith in e);
   buckets = length-map shards.locks (λ (lock : LockShape). []) ∙ count;
   parts = λ bucket within.
-      subst (λ past. IsPart s.bits bucket (15 * 0) past []) (ap reverse (sym (each_empty shards.locks bucket)))
+      subst (λ past. IsPart s.bits bucket (15 * 0) past []) (ap reverse (sym (nothing_seen shards.locks bucket)))
       (record {
         alike = λ h mine. alike_itself (15 * 0) h [] (omega arith);
         elsewhere = λ h other. refl;

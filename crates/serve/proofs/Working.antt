@@ -4,7 +4,7 @@ use Rattle.std.proofs.lemmas.List.{append-nil, length-map, map-append}
 use Rattle.std.proofs.lemmas.List.Concat.{flat_map-append}
 use Rattle.std.proofs.lemmas.List.Sums.{sum_by-append}
 use Rattle.std.specs.Prelude.{Option, false}
-use Rattle.std.specs.List.{AllByRecursion, flat_map}
+use Rattle.std.specs.List.{flat_map}
 use Rattle.access_list.specs.Access.{Listing}
 use Rattle.ot_base.specs.declared.hash.Secret.{Secret}
 use Rattle.ot_base.specs.declared.minute.Minute.{Minute}
@@ -17,21 +17,12 @@ use Rattle.tracker_core.specs.UdpPlan.{calls_of}
 use Rattle.tracker_model.specs.Grows.{GrowsAmong, Move, OthersBetween}
 use Rattle.tracker_model.specs.Placed.{moves_of}
 use Rattle.tracker_model.specs.declared.answer.Answer.TheVariants as answered
-use Rattle.tracker_model.specs.declared.call.Call.{Call}
 use Rattle.tracker_model.proofs.GrowsLemmas.{grows-append}
+use Rattle.upkeep.proofs.Lists.{all_append, no_moves}
 use Rattle.serve.specs.Datagram.{FaultsAreCounted, Handles, Replies, Serves, Terms}
 use Rattle.serve.specs.Worked.{HasReply, IsTurn, Rests, Turn, Worked, is_received, lost_in, moves_in, sent_in, turn_plan, turn_terms}
 use Rattle.serve.specs.declared.datagram.Served.{Served}
 use Rattle.serve.specs.declared.datagram.Served.TheVariants.{Idle, RecvFault, Unbuilt, Silent, Sent, SendFault, NoMemory}
-
--- without answers there are no moves
-no_moves : (caller : ℕ) (minute : Minute) (placed : List (ℕ × Call)) → moves_of caller minute placed [] ≡ []
-no_moves caller minute [] = refl
-no_moves caller minute (call ∷ placed) = refl
-
-all_append : {A : Type 0} (P : A → Type 0) (xs ys : List A) → AllByRecursion P xs → AllByRecursion P ys → AllByRecursion P (xs ++ ys)
-all_append P [] ys first then = then
-all_append P (x ∷ xs) ys first then = (first.0, all_append P xs ys first.1 then)
 
 module _ (secret : Secret) (access : Option Listing) where
   abbrev pub terms_at : Minute → Terms

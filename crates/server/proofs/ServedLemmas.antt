@@ -16,6 +16,7 @@ use Rattle.serve.specs.ServedLinks.{RestsAt, WorkedLinks}
 use Rattle.serve.specs.Worked.{Rests, Worked}
 use Rattle.serve.specs.declared.job.Job.{Job}
 use Rattle.serve.specs.declared.job.Job.TheVariants.{Udp, Http, Cleaner, Sender, Receiver}
+use Rattle.shards.proofs.FirstPass.{nothing_seen}
 use Rattle.shards.proofs.JoiningLemmas.{joined_further}
 use Rattle.shards.specs.Joining.{AreJoined, HoldAllOf}
 use Rattle.shards.specs.Shape.{KnowsNumbers, PassShape, ShardsShape, first_pass}
@@ -44,11 +45,6 @@ all_reverse P (x ∷ xs) all =
     ((all_right P (reverse xs) (x ∷ []) cut).0, all_reverse P xs (all_left P (reverse xs) (x ∷ []) cut))
 
 -- ---- passes that have seen nothing
-
-no_history : (locks : List LockShape) (bucket : ℕ) → history_at (map (λ (lock : LockShape). []) locks) bucket ≡ []
-no_history [] bucket = refl
-no_history (lock ∷ locks) zero = refl
-no_history (lock ∷ locks) (suc bucket) = no_history locks bucket
 
 pub none_known : (shards : ShardsShape) (free out : ℕ) → free < suc shards.callers → KnowsNumbers (record (first_pass shards) { free = free; out = out })
 none_known shards free out fits = record {
@@ -339,7 +335,7 @@ none_at_all callers old new nothing on = subst (NoneBy callers) (sym (on.grown �
 pub none_of_others : (shards : ShardsShape) (free out : ℕ) (others : List PassShape) (last : PassShape)
     → AreJoined (others ++ passes_from shards 1 1) (record (first_pass shards) { free = free; out = out }) last → (bucket : ℕ) → NoneBy (0 ∷ 1 ∷ []) (history_at last.seen bucket)
 none_of_others shards free out others last joined bucket =
-    let nothing = no_history shards.locks bucket in
+    let nothing = nothing_seen shards.locks bucket in
     let idle = all_right (HoldAllOf last.seen) others (passes_from shards 1 1) joined.others_seen in
     ((none_at_all (0 ∷ []) _ _ nothing (joined.seen bucket)).0, ((none_at_all (1 ∷ []) _ _ nothing (idle.0 bucket)).0, tt))
 

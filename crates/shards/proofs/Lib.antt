@@ -2,6 +2,7 @@ pub mod PlaceLemmas
 mod SettingsLemmas
 mod TurnLemmas
 mod PassLemmas
+pub mod FirstPass
 mod CallLemmas
 mod SplitLemmas
 pub mod PassingLemmas

@@ -1,5 +1,5 @@
 mod Draining
-mod Lists
+pub mod Lists
 mod Places
 mod Sending
 mod Sweeping

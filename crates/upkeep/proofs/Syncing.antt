@@ -18,7 +18,7 @@ use Rattle.tracker_model.specs.declared.call.Call.{Call}
 use Rattle.tracker_model.proofs.GrowsLemmas.{grows-append}
 use Rattle.upkeep.specs.Hearing.{AnswersNotes, HadMemory, full_count, is_full, is_wanting, sync_call}
 use Rattle.upkeep.specs.declared.sync_in.SyncIn.TheVariants as told
-use Rattle.upkeep.proofs.Lists.{all_append}
+use Rattle.upkeep.proofs.Lists.{all_append, no_moves}
 
 -- what a want of memory is
 wanting_is : (answer : Answer) → is_wanting answer ≡ true → answer ≡ NoMemory
@@ -72,10 +72,6 @@ pub record AppliedSoFar (minute : Minute) (old new : PassShape) (notes : List No
   pub full_are : full ≡ full_count answers
   pub grown : GrowsAmong old.shards.settings old.caller old.seen (moves_of old.caller minute (placed_notes old.shards.bits notes) answers) new.seen
   pub pass : new ≡ record old { seen = new.seen }
-
-pub no_moves : (caller : ℕ) (minute : Minute) (placed : List (ℕ × Call)) → moves_of caller minute placed [] ≡ []
-no_moves caller minute [] = refl
-no_moves caller minute (call ∷ placed) = refl
 
 pub applied_none : (minute : Minute) (pass : PassShape) (notes : List Note) → AppliedSoFar minute pass pass notes 0 0
 applied_none minute pass notes =

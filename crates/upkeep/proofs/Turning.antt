@@ -23,8 +23,8 @@ use Rattle.upkeep.specs.Hearing.{AnswersNotes, Hears, HearsCounted, HearsTurn, T
 use Rattle.upkeep.specs.Nodes.{is_among}
 use Rattle.upkeep.specs.declared.sync_in.SyncIn.{SyncIn}
 use Rattle.upkeep.specs.declared.sync_in.SyncIn.TheVariants.{Idle, RecvFault, Stranger, Refused, Applied, NoMemory}
-use Rattle.upkeep.proofs.Lists.{all_append}
-use Rattle.upkeep.proofs.Syncing.{no_moves, placed_notes}
+use Rattle.upkeep.proofs.Lists.{all_append, no_moves}
+use Rattle.upkeep.proofs.Syncing.{placed_notes}
 
 -- what a program holds of notes that may be told
 pub tellable_held : (notes : List Note) → All IsHeld notes → AllByRecursion IsTellable notes
