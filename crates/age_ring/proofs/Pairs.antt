@@ -153,3 +153,9 @@ due_by_slot stamp ages time due some past young later soon same =
 
 pub slot_by_due : (stamp ages due : ℕ) → stamp + ages ≡ due → stamp % ages ≡ due % ages
 slot_by_due stamp ages due is = sym (slot_at_due stamp ages) ∙ ap (λ n. n % ages) is
+
+-- an item that has a stamp already stays as it is when it is given that stamp
+pub stamped_again : {T : Type 0} (pairs : List (T × ℕ)) (i time : ℕ) → i < length pairs → get_or (stamps_of pairs) i 0 ≡ time → (d : T × ℕ) → pairs ≡ set pairs i ((get_or pairs i d).0, time)
+stamped_again {T} pairs i time within same d =
+    let is : (get_or pairs i d).1 ≡ time = sym (stamp_of pairs i d within) ∙ same in
+    sym (set-get_or pairs i d) ∙ ap (λ t. set pairs i ((get_or pairs i d).0, t)) is

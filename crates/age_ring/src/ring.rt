@@ -135,8 +135,25 @@ impl<T: Copy> AgeRing<T> {
         self.lists.push(item, self.time, steps)
     }
 
-    /// Gives the time as a stamp to the item at a place. The order stays.
+    /// Gives the time as a stamp to the item at a place. The order stays. An item that has that stamp
+    /// is only looked at: its neighbours in the list of its age stay where they are.
     pub fn renew<L: Ledger>(&mut self, i: u32, steps: &mut Steps<L>)
+        requires { i < length self.old.pairs }
+        ensures pairs { (pair : T × ℕ) → self.new.pairs ≡
+            slice_set self.old.pairs i ((slice_index_or self.old.pairs i pair).0, self.old.time) }
+        ensures items { items_of self.new.pairs ≡ items_of self.old.pairs }
+        ensures spare { self.new.spare ≡ self.old.spare }
+        ensures time { self.new.time ≡ self.old.time }
+        ensures ages { self.new.ages ≡ self.old.ages }
+        ensures steps { steps.new ≤ steps.old + 16 }
+    {
+        if self.stamp(i) != self.time {
+            self.relink(i, steps);
+        }
+    }
+
+    /// The same, by the lists of both ages.
+    fn relink<L: Ledger>(&mut self, i: u32, steps: &mut Steps<L>)
         requires { i < length self.old.pairs }
         ensures pairs { (pair : T × ℕ) → self.new.pairs ≡
             slice_set self.old.pairs i ((slice_index_or self.old.pairs i pair).0, self.old.time) }
