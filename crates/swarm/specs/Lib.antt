@@ -2,3 +2,4 @@ pub mod Index
 pub mod Members
 pub mod Peers
 pub mod Shape
+pub mod Short

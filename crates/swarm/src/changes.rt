@@ -1,4 +1,4 @@
-//! Changes of a ring and its index together, so that the index goes on telling where each endpoint
+//! Changes of an order and its index together, so that the index goes on telling where each endpoint
 //! stands.
 
 ghost use Rattle.std.specs.Prelude.{◌≡◌, ◌+◌, ◌*◌, ◌<◌, ◌≤◌, [], ◌∷◌, ◌++◌, All, length, sum_by, slice_get, slice_set, swap_remove, Some, None, OnOk, OnErr};
@@ -11,7 +11,7 @@ ghost use Rattle.swarm.specs.Peers.{one_if as one_if_lem, seed_one};
 
 use crate::index::{Index, Place};
 use crate::members::{MOST_PEERS, PEER_AGES};
-use age_ring::AgeRing;
+use crate::order::Order;
 use node_table::Steps;
 use ot_base::{Endpoint, Held, Minute};
 use std::alloc::AllocError;
@@ -19,56 +19,56 @@ use std::sync::ledger::Ledger;
 
 /// Puts a new endpoint last. Want of memory changes no peer.
 pub fn add_last<L: Ledger>(
-    ring: &mut AgeRing<Endpoint>,
+    order: &mut Order,
     index: &mut Index,
     who: Endpoint,
     seed: bool,
     steps: &mut Steps<L>,
 ) -> Result<(), AllocError>
-    requires indexed { IsIndexed (items_of ring.old.pairs) (place_in index.old) }
+    requires indexed { IsIndexed (items_of order.old.pairs) (place_in index.old) }
     requires unknown { place_in index.old who ≡ None }
-    requires few { length ring.old.pairs < MOST_NODES }
-    ensures ok { OnOk result (peers_by (place_in index.new) ring.new.pairs ≡
-        peers_by (place_in index.old) ring.old.pairs ++
-        (record { who = who; seed = seed; stamp = record { 0 = ring.old.time } }) ∷ []) }
-    ensures one_more { OnOk result (length ring.new.pairs ≡ length ring.old.pairs + 1) }
-    ensures err { OnErr result (peers_by (place_in index.new) ring.new.pairs ≡
-        peers_by (place_in index.old) ring.old.pairs) }
-    ensures err_pairs { OnErr result (ring.new.pairs ≡ ring.old.pairs) }
-    ensures indexed { IsIndexed (items_of ring.new.pairs) (place_in index.new) }
-    ensures clock { KeepsClock ring.old ring.new }
+    requires few { length order.old.pairs < MOST_NODES }
+    ensures ok { OnOk result (peers_by (place_in index.new) order.new.pairs ≡
+        peers_by (place_in index.old) order.old.pairs ++
+        (record { who = who; seed = seed; stamp = record { 0 = order.old.time } }) ∷ []) }
+    ensures one_more { OnOk result (length order.new.pairs ≡ length order.old.pairs + 1) }
+    ensures err { OnErr result (peers_by (place_in index.new) order.new.pairs ≡
+        peers_by (place_in index.old) order.old.pairs) }
+    ensures err_pairs { OnErr result (order.new.pairs ≡ order.old.pairs) }
+    ensures indexed { IsIndexed (items_of order.new.pairs) (place_in index.new) }
+    ensures clock { KeepsClock order.old order.new }
     ensures steps { steps.new ≤ steps.old + 16 }
 {
-    ring.reserve()?;
+    order.reserve()?;
     let place = Place {
-        at: ring.len(),
+        at: order.len(),
         seed,
     };
     index.add(who, place)?;
-    ring.insert(who, steps);
+    order.insert(who, steps);
     Ok(())
 }
 
 /// Renews the endpoint that stands at a place, and sets whether it is a seed.
 pub fn renew_at<L: Ledger>(
-    ring: &mut AgeRing<Endpoint>,
+    order: &mut Order,
     index: &mut Index,
     who: &Endpoint,
     place: Place,
     seed: bool,
     steps: &mut Steps<L>,
 )
-    requires indexed { IsIndexed (items_of ring.old.pairs) (place_in index.old) }
+    requires indexed { IsIndexed (items_of order.old.pairs) (place_in index.old) }
     requires known { place_in index.old who.now ≡ Some place }
-    ensures peers { peers_by (place_in index.new) ring.new.pairs ≡
-        slice_set (peers_by (place_in index.old) ring.old.pairs) place.at
-        (record { who = who.now; seed = seed; stamp = record { 0 = ring.old.time } }) }
-    ensures len { length ring.new.pairs ≡ length ring.old.pairs }
-    ensures indexed { IsIndexed (items_of ring.new.pairs) (place_in index.new) }
-    ensures clock { KeepsClock ring.old ring.new }
+    ensures peers { peers_by (place_in index.new) order.new.pairs ≡
+        slice_set (peers_by (place_in index.old) order.old.pairs) place.at
+        (record { who = who.now; seed = seed; stamp = record { 0 = order.old.time } }) }
+    ensures len { length order.new.pairs ≡ length order.old.pairs }
+    ensures indexed { IsIndexed (items_of order.new.pairs) (place_in index.new) }
+    ensures clock { KeepsClock order.old order.new }
     ensures steps { steps.new ≤ steps.old + 16 }
 {
-    ring.renew(place.at, steps);
+    order.renew(place.at, steps);
     set_seed(index, who, place, seed);
 }
 
@@ -86,26 +86,26 @@ fn set_seed(index: &mut Index, who: &Endpoint, place: Place, seed: bool)
 
 /// Takes out the peer at a place: the last one moves there.
 pub fn remove_at<L: Ledger>(
-    ring: &mut AgeRing<Endpoint>,
+    order: &mut Order,
     index: &mut Index,
     at: u32,
     steps: &mut Steps<L>,
 ) -> Held
-    requires indexed { IsIndexed (items_of ring.old.pairs) (place_in index.old) }
-    requires within { at < length ring.old.pairs }
-    ensures value { slice_get (peers_by (place_in index.old) ring.old.pairs) at ≡ Some result }
-    ensures peers { (d : Held) → peers_by (place_in index.new) ring.new.pairs ≡
-        swap_remove (peers_by (place_in index.old) ring.old.pairs) at d }
-    ensures len { length ring.new.pairs + 1 ≡ length ring.old.pairs }
-    ensures indexed { IsIndexed (items_of ring.new.pairs) (place_in index.new) }
-    ensures clock { KeepsClock ring.old ring.new }
+    requires indexed { IsIndexed (items_of order.old.pairs) (place_in index.old) }
+    requires within { at < length order.old.pairs }
+    ensures value { slice_get (peers_by (place_in index.old) order.old.pairs) at ≡ Some result }
+    ensures peers { (d : Held) → peers_by (place_in index.new) order.new.pairs ≡
+        swap_remove (peers_by (place_in index.old) order.old.pairs) at d }
+    ensures len { length order.new.pairs + 1 ≡ length order.old.pairs }
+    ensures indexed { IsIndexed (items_of order.new.pairs) (place_in index.new) }
+    ensures clock { KeepsClock order.old order.new }
     ensures steps { steps.new ≤ steps.old + 16 }
 {
-    let stamp = Minute(ring.stamp(at));
-    let who = ring.remove(at, steps);
+    let stamp = Minute(order.stamp(at));
+    let who = order.remove(at, steps);
     let seed = index.take(&who);
-    if at < ring.len() {
-        let moved = ring.item(at);
+    if at < order.len() {
+        let moved = order.item(at);
         index.move_to(&moved, at);
     }
     Held { who, seed, stamp }
@@ -113,29 +113,29 @@ pub fn remove_at<L: Ledger>(
 
 /// Takes out each peer that isn't young at a time, and tells how many of them were seeds.
 pub fn drop_due<L: Ledger>(
-    ring: &mut AgeRing<Endpoint>,
+    order: &mut Order,
     index: &mut Index,
     time: u32,
     steps: &mut Steps<L>,
 ) -> u32
-    requires indexed { IsIndexed (items_of ring.old.pairs) (place_in index.old) }
-    requires few { length ring.old.pairs ≤ MOST_PEERS }
-    requires ages { ring.old.ages ≡ PEER_AGES }
-    requires later { ring.old.time ≤ time }
-    ensures expires { Expires time (peers_by (place_in index.old) ring.old.pairs)
-        (peers_by (place_in index.new) ring.new.pairs) }
-    ensures young { All (IsYoung PEER_AGES time) ring.new.pairs }
-    ensures seeds { result + sum_by seed_one (peers_by (place_in index.new) ring.new.pairs) ≡
-        sum_by seed_one (peers_by (place_in index.old) ring.old.pairs) }
-    ensures len { length ring.new.pairs ≤ length ring.old.pairs }
-    ensures indexed { IsIndexed (items_of ring.new.pairs) (place_in index.new) }
-    ensures clock { KeepsClock ring.old ring.new }
-    ensures steps { steps.new + 16 * length ring.new.pairs ≤
-        steps.old + 16 * length ring.old.pairs }
+    requires indexed { IsIndexed (items_of order.old.pairs) (place_in index.old) }
+    requires few { length order.old.pairs ≤ MOST_PEERS }
+    requires ages { order.old.ages ≡ PEER_AGES }
+    requires later { order.old.time ≤ time }
+    ensures expires { Expires time (peers_by (place_in index.old) order.old.pairs)
+        (peers_by (place_in index.new) order.new.pairs) }
+    ensures young { All (IsYoung PEER_AGES time) order.new.pairs }
+    ensures seeds { result + sum_by seed_one (peers_by (place_in index.new) order.new.pairs) ≡
+        sum_by seed_one (peers_by (place_in index.old) order.old.pairs) }
+    ensures len { length order.new.pairs ≤ length order.old.pairs }
+    ensures indexed { IsIndexed (items_of order.new.pairs) (place_in index.new) }
+    ensures clock { KeepsClock order.old order.new }
+    ensures steps { steps.new + 16 * length order.new.pairs ≤
+        steps.old + 16 * length order.old.pairs }
 {
     let mut seeds = 0;
-    while let Some(i) = ring.next_due(time) {
-        let peer = remove_at(ring, index, i, steps);
+    while let Some(i) = order.next_due(time) {
+        let peer = remove_at(order, index, i, steps);
         seeds += one_if(peer.seed);
     }
     seeds

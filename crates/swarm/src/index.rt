@@ -1,5 +1,6 @@
 //! The index of one family's peers: where each endpoint stands, and whether it is a seed.
 
+use crate::short::{Short, shorts_in_order};
 use ot_base::Endpoint;
 use ot_base::laws::endpoints_in_order;
 use std::alloc::{AllocError, Global};
@@ -12,16 +13,20 @@ pub struct Place {
     pub seed: bool,
 }
 
-/// The places by endpoint. Contracts see the place of each endpoint.
+/// The places by endpoint. Contracts see the place of each endpoint. An endpoint of IPv4 stands
+/// under its six bytes alone: a look-up waits for the memory of the keys that it compares with.
 #[derive(Drop)]
 pub struct Index {
-    places: BTreeMap<Endpoint, Place>,
+    fours: BTreeMap<Short, Place>,
+    sixes: BTreeMap<Endpoint, Place>,
 }
 
 impl Index {
     ghost use Rattle.std.specs.Prelude.{◌≡◌, ◌<◌, OnOk, OnErr, Some, None};
+    ghost use Rattle.std.specs.Borrow.{sem};
+    ghost use Rattle.std.specs.Option.{option_copied_mut};
     ghost use Rattle.ot_base.specs.declared.address.Endpoint.{Endpoint};
-    ghost use Rattle.swarm.specs.Index.{Puts, place_in, at_place, seed_of, with_seed};
+    ghost use Rattle.swarm.specs.Index.{LendsPlace, Puts, place_in, at_place, seed_of, with_seed};
     ghost use Rattle.swarm.specs.declared.index.Place.{Place};
 
     /// An index of no endpoint, which takes no memory.
@@ -29,7 +34,8 @@ impl Index {
         ensures { (e : Endpoint) → place_in result e ≡ None }
     {
         Index {
-            places: BTreeMap::new(alloc),
+            fours: BTreeMap::new(alloc),
+            sixes: BTreeMap::new(alloc),
         }
     }
 
@@ -37,8 +43,12 @@ impl Index {
     pub fn get(&self, who: &Endpoint) -> Option<Place>
         ensures { result ≡ place_in self.now who.now }
     {
+        shorts_in_order();
         endpoints_in_order();
-        self.places.get(who).copied()
+        match Short::of(who) {
+            Some(short) => self.fours.get(&short).copied(),
+            None => self.sixes.get(who).copied(),
+        }
     }
 
     /// Whether an endpoint is a seed.
@@ -56,8 +66,16 @@ impl Index {
         ensures ok { OnOk result (Puts (place_in self.old) (place_in self.new) who (Some place)) }
         ensures err { OnErr result ((e : Endpoint) → place_in self.new e ≡ place_in self.old e) }
     {
+        shorts_in_order();
         endpoints_in_order();
-        self.places.insert(who, place)?;
+        match Short::of(&who) {
+            Some(short) => {
+                self.fours.insert(short, place)?;
+            }
+            None => {
+                self.sixes.insert(who, place)?;
+            }
+        }
         Ok(())
     }
 
@@ -66,10 +84,22 @@ impl Index {
         ensures seed { result ≡ seed_of (place_in self.old who.now) }
         ensures gone { Puts (place_in self.old) (place_in self.new) who.now None }
     {
-        endpoints_in_order();
-        match self.places.remove(who) {
+        match self.remove(who) {
             Some(place) => place.seed,
             None => false,
+        }
+    }
+
+    /// Takes out an endpoint, with no memory, and gives the place that it had.
+    fn remove(&mut self, who: &Endpoint) -> Option<Place>
+        ensures place { result ≡ place_in self.old who.now }
+        ensures gone { Puts (place_in self.old) (place_in self.new) who.now None }
+    {
+        shorts_in_order();
+        endpoints_in_order();
+        match Short::of(who) {
+            Some(short) => self.fours.remove(&short),
+            None => self.sixes.remove(who),
         }
     }
 
@@ -77,7 +107,8 @@ impl Index {
     pub fn clear(&mut self)
         ensures { (e : Endpoint) → place_in self.new e ≡ None }
     {
-        self.places.clear();
+        self.fours.clear();
+        self.sixes.clear();
     }
 
     /// Gives an endpoint another place in the order.
@@ -85,8 +116,7 @@ impl Index {
         ensures { Puts (place_in self.old) (place_in self.new) who.now
             (at_place at (place_in self.old who.now)) }
     {
-        endpoints_in_order();
-        if let Some(place) = self.places.get_mut(who) {
+        if let Some(place) = self.place_mut(who) {
             place.at = at;
         }
     }
@@ -96,9 +126,21 @@ impl Index {
         ensures { Puts (place_in self.old) (place_in self.new) who.now
             (with_seed seed (place_in self.old who.now)) }
     {
-        endpoints_in_order();
-        if let Some(place) = self.places.get_mut(who) {
+        if let Some(place) = self.place_mut(who) {
             place.seed = seed;
+        }
+    }
+
+    /// The place of an endpoint, to be written to.
+    fn place_mut(&mut self, who: &Endpoint) -> Option<&mut Place>
+        ensures* puts { sem 𝓛 (LendsPlace self.entry who.now result) }
+        ensures value { option_copied_mut result ≡ place_in self.old who.now }
+    {
+        shorts_in_order();
+        endpoints_in_order();
+        match Short::of(who) {
+            Some(short) => self.fours.get_mut(&short),
+            None => self.sixes.get_mut(who),
         }
     }
 }

@@ -8,6 +8,8 @@ mod choice;
 mod index;
 pub mod laws;
 mod members;
+mod order;
+mod short;
 mod swarm;
 #[cfg(test)]
 mod tests;

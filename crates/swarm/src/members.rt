@@ -3,6 +3,7 @@
 use crate::changes::{add_last, drop_due, one_if, remove_at, renew_at};
 use crate::choice::choose_others;
 use crate::index::Index;
+use crate::order::Order;
 use age_ring::AgeRing;
 use node_table::Steps;
 use ot_base::laws::equal_endpoints;
@@ -32,7 +33,7 @@ pub enum Put {
 /// The peers of one family in their order, with an index by endpoint and a running count of seeds.
 #[derive(Drop)]
 pub struct Members {
-    ring: AgeRing<Endpoint>,
+    order: Order,
     index: Index,
     seeds: u32,
     /// The place that was put to last. An endpoint is looked for there first, since a peer is told
@@ -47,11 +48,11 @@ impl Model for Members {
     ghost Value = { HeldAt };
 
     ghost view = { λ m. record {
-      peers = peers_by (place_in m.index) m.ring.pairs;
-      time = m.ring.time;
+      peers = peers_by (place_in m.index) m.order.pairs;
+      time = m.order.time;
     } };
 
-    ghost invariant = { λ m. AreKept m.ring (place_in m.index) m.seeds };
+    ghost invariant = { λ m. AreKept m.order (place_in m.index) m.seeds };
 }
 
 impl Members {
@@ -69,7 +70,7 @@ impl Members {
         ensures time { IfOk result (λ members. members.time ≡ time) }
     {
         Ok(Members {
-            ring: AgeRing::new(alloc, PEER_AGES, time)?,
+            order: Order::new(alloc, PEER_AGES, time)?,
             index: Index::new(alloc),
             seeds: 0,
             recent: 0,
@@ -81,7 +82,7 @@ impl Members {
         ensures len { result ≡ length self.now.peers }
         ensures most { result ≤ MOST_PEERS }
     {
-        self.ring.len()
+        self.order.len()
     }
 
     /// How many of them are seeds.
@@ -99,7 +100,7 @@ impl Members {
         ensures within { result ≤ length self.now.peers }
         ensures most { length self.now.peers ≤ MOST_PEERS }
     {
-        self.ring.len() - self.seeds
+        self.order.len() - self.seeds
     }
 
     /// The time of the last `advance`, or that at which it began.
@@ -107,7 +108,7 @@ impl Members {
         ensures time { result ≡ self.now.time }
         ensures orderly { AreOrderly self.now.time self.now.peers }
     {
-        self.ring.time()
+        self.order.time()
     }
 
     /// The ring, which has the endpoints in their order with their stamps.
@@ -117,7 +118,7 @@ impl Members {
         ensures time { result.now.time ≡ self.now.time }
         ensures ages { result.now.ages ≡ PEER_AGES }
     {
-        &self.ring
+        self.order.ring()
     }
 
     /// The peer at a place.
@@ -125,12 +126,12 @@ impl Members {
         requires { i < length self.now.peers }
         ensures { slice_get self.now.peers i ≡ Some result }
     {
-        let who = self.ring.item(i);
+        let who = self.order.item(i);
         let seed = self.index.is_seed(&who);
         Held {
             who,
             seed,
-            stamp: Minute(self.ring.stamp(i)),
+            stamp: Minute(self.order.stamp(i)),
         }
     }
 
@@ -150,10 +151,10 @@ impl Members {
         ensures { IsTrue result → place_of who.now self.now.peers ≡ Some i }
     {
         equal_endpoints();
-        if i >= self.ring.len() {
+        if i >= self.order.len() {
             return false;
         }
-        self.ring.item(i) == *who
+        self.order.item(i) == *who
     }
 
     /// Adds a peer, or renews it. Want of memory changes nothing.
@@ -176,14 +177,14 @@ impl Members {
         match self.index.get(&who) {
             Some(place) => {
                 let stood = place.seed;
-                renew_at(&mut self.ring, &mut self.index, &who, place, seed, steps);
+                renew_at(&mut self.order, &mut self.index, &who, place, seed, steps);
                 self.seeds = self.seeds + one_if(seed) - one_if(stood);
                 self.recent = place.at;
                 Ok(Put::Again { seed: stood })
             }
             None => {
-                let place = self.ring.len();
-                add_last(&mut self.ring, &mut self.index, who, seed, steps)?;
+                let place = self.order.len();
+                add_last(&mut self.order, &mut self.index, who, seed, steps)?;
                 self.seeds += one_if(seed);
                 self.recent = place;
                 Ok(Put::Fresh)
@@ -199,7 +200,7 @@ impl Members {
         ensures steps { steps.new ≤ steps.old + 32 }
     {
         let place = self.index.get(who)?;
-        let held = remove_at(&mut self.ring, &mut self.index, place.at, steps);
+        let held = remove_at(&mut self.order, &mut self.index, place.at, steps);
         self.seeds -= one_if(held.seed);
         Some(held)
     }
@@ -213,7 +214,7 @@ impl Members {
         ensures steps { steps.new + 32 * length self.new.peers ≤
             steps.old + 32 * length self.old.peers }
     {
-        let start = self.ring.time();
+        let start = self.order.time();
         for minute in 0..self.minutes_to(time) {
             self.pass_to(start + minute + 1, steps);
         }
@@ -227,10 +228,10 @@ impl Members {
         requires { self.now.time ≤ time }
         ensures { self.now.time + result ≤ time }
     {
-        if self.ring.is_empty() {
+        if self.order.is_empty() {
             return 0;
         }
-        (time - self.ring.time()).min(PEER_AGES)
+        (time - self.order.time()).min(PEER_AGES)
     }
 
     /// The same, at the cost of a look at each minute for each peer that goes.
@@ -242,21 +243,19 @@ impl Members {
         ensures steps { steps.new + 32 * length self.new.peers ≤
             steps.old + 32 * length self.old.peers }
     {
-        self.seeds -= drop_due(&mut self.ring, &mut self.index, time, steps);
-        self.ring.pass(time);
+        self.seeds -= drop_due(&mut self.order, &mut self.index, time, steps);
+        self.order.pass(time);
     }
 
-    /// Gives memory back where a third of the room or more is spare: at least a sixth of the peers
-    /// that the room was made for have left it, so it doesn't come and go with a few peers.
+    /// Gives memory back where much of it is spare, and all of it where no peer is left.
     fn release(&mut self)
         ensures { self.new ≡ self.old }
     {
-        let len = self.ring.len();
-        if len == 0 {
+        if self.order.is_empty() {
             self.index.clear();
-            self.ring.shrink();
-        } else if self.ring.spare() > len / 2 + 8 {
-            self.ring.shrink();
+            self.order.shrink();
+        } else if self.order.is_wide() {
+            self.order.shrink();
         }
     }
 
@@ -267,6 +266,6 @@ impl Members {
         ensures { peers.new ≡ choice_of words.now asker.now want self.now.peers }
     {
         let place = self.place(asker);
-        choose_others(&self.ring, place, want, words, peers);
+        choose_others(&self.order, place, want, words, peers);
     }
 }

@@ -12,7 +12,7 @@ use Rattle.swarm.proofs.changes.add_last.Goals as goal
 
 pub returns-clause-ok : goal.returns-clause-ok
 returns-clause-ok g c =
-    let ring = c.args.ring.now in
+    let ring = c.args.order.now in
     let place : Place = record { at = c.len.result; seed = c.args.seed } in
     let reserved : c.reserve.new.self.pairs ≡ ring.pairs = ap (λ (r : Ring Endpoint). r.pairs) c.in_ok-reserve.ensures.same in
     let time : c.reserve.new.self.time ≡ ring.time = ap (λ (r : Ring Endpoint). r.time) c.in_ok-reserve.ensures.same in
@@ -22,7 +22,7 @@ returns-clause-ok g c =
 
 pub returns-clause-indexed : goal.returns-clause-indexed
 returns-clause-indexed g c =
-    let ring = c.args.ring.now in
+    let ring = c.args.order.now in
     let place : Place = record { at = c.len.result; seed = c.args.seed } in
     let reserved : c.reserve.new.self.pairs ≡ ring.pairs = ap (λ (r : Ring Endpoint). r.pairs) c.in_ok-reserve.ensures.same in
     let last : c.len.result ≡ length (items_of ring.pairs) = c.len.ensures.len ∙ ap length reserved ∙ sym (length-map ring.pairs (λ (p : Endpoint × ℕ). p.0)) in

@@ -8,15 +8,15 @@ use Rattle.swarm.proofs.ExpireLemmas.{dropping_none, dropping_one, due_peer}
 use Rattle.swarm.proofs.changes.drop_due.Goals as goal
 
 pub loop-i-init : goal.loop-i-init
-loop-i-init g c = dropping_none c.args.time c.args.ring.now (place_in c.args.index.now) c.args.steps.now c.requires.indexed
+loop-i-init g c = dropping_none c.args.time c.args.order.now (place_in c.args.index.now) c.args.steps.now c.requires.indexed
 
 pub loop-i-preserved : goal.loop-i-preserved
 loop-i-preserved g c =
     let r = c.remove_at-peer in
     let look = place_in c.loop-i.index in
-    let pairs = c.loop-i.ring.pairs in
-    let ages : c.loop-i.ring.ages ≡ PEER_AGES = c.loop-i.invariant.clock.ages ∙ c.requires.ages in
+    let pairs = c.loop-i.order.pairs in
+    let ages : c.loop-i.order.ages ≡ PEER_AGES = c.loop-i.invariant.clock.ages ∙ c.requires.ages in
     let due : slice_index (stamps_of pairs) c.in-Some.i + PEER_AGES ≤ c.args.time = omega (arith, ages, c.in-Some.ensures.due) in
     rw c.one_if-seeds.ensures
-    (dropping_one c.args.time c.args.ring.now c.loop-i.ring r.new.ring (place_in c.args.index.now) look (place_in r.new.index) c.loop-i.seeds c.args.steps.now c.loop-i.steps r.new.steps c.in-Some.i r.result c.loop-i.invariant
+    (dropping_one c.args.time c.args.order.now c.loop-i.order r.new.order (place_in c.args.index.now) look (place_in r.new.index) c.loop-i.seeds c.args.steps.now c.loop-i.steps r.new.steps c.in-Some.i r.result c.loop-i.invariant
     r.ensures.value (due_peer look pairs c.in-Some.i c.args.time r.result r.ensures.value due) (r.ensures.peers r.result) r.ensures.len r.ensures.indexed r.ensures.clock r.ensures.steps)

@@ -13,23 +13,23 @@ use Rattle.swarm.proofs.changes.remove_at.Goals as goal
 
 pub returns-then-at-len-clause-value : goal.returns-then-at-len-clause-value
 returns-then-at-len-clause-value g c =
-    peer_at (place_in c.args.index.now) c.args.ring.now.pairs c.args.at c.remove-who.result c.stamp.result c.take-seed.result c.remove-who.ensures.item c.stamp.ensures c.take-seed.ensures.seed
+    peer_at (place_in c.args.index.now) c.args.order.now.pairs c.args.at c.remove-who.result c.stamp.result c.take-seed.result c.remove-who.ensures.item c.stamp.ensures c.take-seed.ensures.seed
 
 pub returns-then-at-len-clause-peers : goal.returns-then-at-len-clause-peers
 returns-then-at-len-clause-peers g c d =
     let pair : Endpoint × ℕ = (c.remove-who.result, 0) in
     ap (λ l. peers_by (place_in c.move_to.new.self) l) (c.remove-who.ensures.pairs pair)
-    ∙ peers_removed (place_in c.args.index.now) (place_in c.take-seed.new.self) (place_in c.move_to.new.self) c.args.ring.now.pairs c.remove-who.result c.args.at pair d c.requires.indexed c.remove-who.ensures.item c.take-seed.ensures.gone
+    ∙ peers_removed (place_in c.args.index.now) (place_in c.take-seed.new.self) (place_in c.move_to.new.self) c.args.order.now.pairs c.remove-who.result c.args.at pair d c.requires.indexed c.remove-who.ensures.item c.take-seed.ensures.gone
     (moved_seed (place_in c.take-seed.new.self) (place_in c.move_to.new.self) c.item-moved.result c.args.at c.move_to.ensures)
 
 pub returns-then-at-len-clause-len : goal.returns-then-at-len-clause-len
 returns-then-at-len-clause-len g c =
     let pair : Endpoint × ℕ = (c.remove-who.result, 0) in
-    omega (arith, ap length (c.remove-who.ensures.pairs pair), length-swap_remove c.args.ring.now.pairs c.args.at pair, c.requires.within)
+    omega (arith, ap length (c.remove-who.ensures.pairs pair), length-swap_remove c.args.order.now.pairs c.args.at pair, c.requires.within)
 
 pub returns-then-at-len-clause-indexed : goal.returns-then-at-len-clause-indexed
 returns-then-at-len-clause-indexed g c =
-    let pairs = c.args.ring.now.pairs in
+    let pairs = c.args.order.now.pairs in
     let who = c.remove-who.result in
     let names = names_removed pairs c.remove-who.new.self.pairs c.args.at (who, 0) c.requires.within (c.remove-who.ensures.pairs (who, 0)) in
     let last = left_gap (items_of pairs) c.args.at who c.item-moved.result (ap (λ l. slice_get l c.args.at) (sym names) ∙ c.item-moved.ensures) in
@@ -38,23 +38,23 @@ returns-then-at-len-clause-indexed g c =
 
 pub returns-else-at-len-clause-value : goal.returns-else-at-len-clause-value
 returns-else-at-len-clause-value g c =
-    peer_at (place_in c.args.index.now) c.args.ring.now.pairs c.args.at c.remove-who.result c.stamp.result c.take-seed.result c.remove-who.ensures.item c.stamp.ensures c.take-seed.ensures.seed
+    peer_at (place_in c.args.index.now) c.args.order.now.pairs c.args.at c.remove-who.result c.stamp.result c.take-seed.result c.remove-who.ensures.item c.stamp.ensures c.take-seed.ensures.seed
 
 pub returns-else-at-len-clause-peers : goal.returns-else-at-len-clause-peers
 returns-else-at-len-clause-peers g c d =
     let pair : Endpoint × ℕ = (c.remove-who.result, 0) in
     ap (λ l. peers_by (place_in c.take-seed.new.self) l) (c.remove-who.ensures.pairs pair)
-    ∙ peers_removed (place_in c.args.index.now) (place_in c.take-seed.new.self) (place_in c.take-seed.new.self) c.args.ring.now.pairs c.remove-who.result c.args.at pair d c.requires.indexed c.remove-who.ensures.item c.take-seed.ensures.gone
+    ∙ peers_removed (place_in c.args.index.now) (place_in c.take-seed.new.self) (place_in c.take-seed.new.self) c.args.order.now.pairs c.remove-who.result c.args.at pair d c.requires.indexed c.remove-who.ensures.item c.take-seed.ensures.gone
     (λ e. refl)
 
 pub returns-else-at-len-clause-len : goal.returns-else-at-len-clause-len
 returns-else-at-len-clause-len g c =
     let pair : Endpoint × ℕ = (c.remove-who.result, 0) in
-    omega (arith, ap length (c.remove-who.ensures.pairs pair), length-swap_remove c.args.ring.now.pairs c.args.at pair, c.requires.within)
+    omega (arith, ap length (c.remove-who.ensures.pairs pair), length-swap_remove c.args.order.now.pairs c.args.at pair, c.requires.within)
 
 pub returns-else-at-len-clause-indexed : goal.returns-else-at-len-clause-indexed
 returns-else-at-len-clause-indexed g c =
-    let pairs = c.args.ring.now.pairs in
+    let pairs = c.args.order.now.pairs in
     let who = c.remove-who.result in
     let names = names_removed pairs c.remove-who.new.self.pairs c.args.at (who, 0) c.requires.within (c.remove-who.ensures.pairs (who, 0)) in
     let last : length (items_of pairs) ≤ c.args.at + 1 = omega (arith, ap length (c.remove-who.ensures.pairs (who, 0)), length-swap_remove pairs c.args.at (who, 0), c.len.ensures.len, c.if-at-len.false, length-map pairs (λ (p : Endpoint × ℕ). p.0)) in

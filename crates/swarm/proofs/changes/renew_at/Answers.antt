@@ -14,11 +14,11 @@ use Rattle.swarm.proofs.changes.renew_at.Goals as goal
 pub renew-requires : goal.renew-requires
 renew-requires g c =
     let here = c.requires.indexed.there c.args.who.now c.args.place.at (ap (λ o. at_of o) c.requires.known) in
-    omega (arith, slice_get_within (items_of c.args.ring.now.pairs) c.args.place.at c.args.who.now here, length-map c.args.ring.now.pairs (λ (p : Endpoint × ℕ). p.0))
+    omega (arith, slice_get_within (items_of c.args.order.now.pairs) c.args.place.at c.args.who.now here, length-map c.args.order.now.pairs (λ (p : Endpoint × ℕ). p.0))
 
 pub returns-clause-peers : goal.returns-clause-peers
 returns-clause-peers g c =
-    let ring = c.args.ring.now in
+    let ring = c.args.order.now in
     let here = c.requires.indexed.there c.args.who.now c.args.place.at (ap (λ o. at_of o) c.requires.known) in
     let d : Endpoint × ℕ = (c.args.who.now, 0) in
     ap (λ l. peers_by (place_in c.set_seed.new.index) l) (c.renew.ensures.pairs d ∙ ap (λ e. set ring.pairs c.args.place.at (e, ring.time)) (first_at ring.pairs c.args.place.at c.args.who.now d here))
@@ -27,4 +27,4 @@ returns-clause-peers g c =
 pub returns-clause-indexed : goal.returns-clause-indexed
 returns-clause-indexed g c =
     let P : List Endpoint → Type 0 = λ l. IsIndexed l (place_in c.set_seed.new.index) in
-    subst P (sym c.renew.ensures.items) (indexed_seed (items_of c.args.ring.now.pairs) (place_in c.args.index.now) (place_in c.set_seed.new.index) c.args.who.now c.args.seed c.requires.indexed c.set_seed.ensures)
+    subst P (sym c.renew.ensures.items) (indexed_seed (items_of c.args.order.now.pairs) (place_in c.args.index.now) (place_in c.set_seed.new.index) c.args.who.now c.args.seed c.requires.indexed c.set_seed.ensures)

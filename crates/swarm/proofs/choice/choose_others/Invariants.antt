@@ -6,4 +6,4 @@ use Rattle.swarm.specs.Peers.{without}
 use Rattle.swarm.proofs.choice.choose_others.Given as goal
 
 abbrev pub invariant-loop-position : goal.invariant-loop-position
-invariant-loop-position l = l.peers ≡ map (λ p. get_or (without l.place (items_of l.ring.pairs)) p no_endpoint) (take l.position-index l.position-items)
+invariant-loop-position l = l.peers ≡ map (λ p. get_or (without l.place (items_of l.order.pairs)) p no_endpoint) (take l.position-index l.position-items)

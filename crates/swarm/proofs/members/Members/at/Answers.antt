@@ -6,4 +6,4 @@ use Rattle.swarm.proofs.members.Members.at.Goals as goal
 pub returns : goal.returns
 returns c =
     let k = c.self.inside in
-    rw (← c.self.view_is) (peer_at (place_in k.index) k.ring.pairs c.args.i c.item-who.result c.stamp.result c.is_seed-seed.result c.item-who.ensures c.stamp.ensures c.is_seed-seed.ensures)
+    rw (← c.self.view_is) (peer_at (place_in k.index) k.order.pairs c.args.i c.item-who.result c.stamp.result c.is_seed-seed.result c.item-who.ensures c.stamp.ensures c.is_seed-seed.ensures)

@@ -18,12 +18,12 @@ pub returns : goal.returns
 returns c =
     let k = c.self.inside in
     let look = place_in k.index in
-    let peers = peers_by look k.ring.pairs in
-    let names = items_of k.ring.pairs in
+    let peers = peers_by look k.order.pairs in
+    let names = items_of k.order.pairs in
     let words = c.args.words.now in
     let it = c.self.invariant.indexed in
-    let value : HeldAt = record { peers = peers; time = k.ring.time } in
-    let place : c.place-place.result ≡ at_of (look c.args.asker.now) = c.place-place.ensures ∙ sym (ap (λ (v : HeldAt). place_of c.args.asker.now v.peers) c.self.view_is) ∙ place_indexed peers look c.args.asker.now (indexed_peers look k.ring.pairs it) in
+    let value : HeldAt = record { peers = peers; time = k.order.time } in
+    let place : c.place-place.result ≡ at_of (look c.args.asker.now) = c.place-place.ensures ∙ sym (ap (λ (v : HeldAt). place_of c.args.asker.now v.peers) c.self.view_is) ∙ place_indexed peers look c.args.asker.now (indexed_peers look k.order.pairs it) in
     let rest : without c.place-place.result names ≡ others c.args.asker.now peers =
-    ap (λ o. without o names) place ∙ others_left c.args.asker.now names look it ∙ ap (λ (l : List Endpoint). filter (λ e. not (same_endpoint c.args.asker.now e)) l) (sym (endpoints-peers look k.ring.pairs)) in
+    ap (λ o. without o names) place ∙ others_left c.args.asker.now names look it ∙ ap (λ (l : List Endpoint). filter (λ e. not (same_endpoint c.args.asker.now e)) l) (sym (endpoints-peers look k.order.pairs)) in
     rw (← c.self.view_is) (c.choose_others.ensures ∙ ap (λ (l : List Endpoint). map (λ p. get_or l p no_endpoint) (picks words (length l) (min c.args.want (length l)))) rest)

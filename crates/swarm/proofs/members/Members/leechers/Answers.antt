@@ -9,14 +9,14 @@ use Rattle.swarm.proofs.members.Members.leechers.Goals as goal
 pub overflow_sub-result : goal.overflow_sub-result
 overflow_sub-result c =
     let k = c.self.inside in
-    omega (arith, c.len.ensures.len, c.self.invariant.seeds_counted, seeds_and_others (peers_by (place_in k.index) k.ring.pairs), length-map k.ring.pairs (held_by (place_in k.index)))
+    omega (arith, c.len.ensures.len, c.self.invariant.seeds_counted, seeds_and_others (peers_by (place_in k.index) k.order.pairs), length-map k.order.pairs (held_by (place_in k.index)))
 
 pub returns-clause-leechers : goal.returns-clause-leechers
 returns-clause-leechers c =
     let k = c.self.inside in
-    rw (← c.self.view_is) (omega (arith, c.len.ensures.len, c.self.invariant.seeds_counted, seeds_and_others (peers_by (place_in k.index) k.ring.pairs), length-map k.ring.pairs (held_by (place_in k.index))))
+    rw (← c.self.view_is) (omega (arith, c.len.ensures.len, c.self.invariant.seeds_counted, seeds_and_others (peers_by (place_in k.index) k.order.pairs), length-map k.order.pairs (held_by (place_in k.index))))
 
 pub returns-clause-within : goal.returns-clause-within
 returns-clause-within c =
     let k = c.self.inside in
-    rw (← c.self.view_is) (omega (arith, c.len.ensures.len, length-map k.ring.pairs (held_by (place_in k.index))))
+    rw (← c.self.view_is) (omega (arith, c.len.ensures.len, length-map k.order.pairs (held_by (place_in k.index))))

@@ -7,10 +7,10 @@ use Rattle.swarm.proofs.members.Members.place.Goals as goal
 pub returns-in_err-place : goal.returns-in_err-place
 returns-in_err-place c =
     let k = c.self.inside in
-    rw (← c.self.view_is) (c.from_residual.ensures ∙ sym (unknown_place (place_in k.index) k.ring.pairs c.args.who.now c.self.invariant.indexed (sym c.in_err-place.ensures)))
+    rw (← c.self.view_is) (c.from_residual.ensures ∙ sym (unknown_place (place_in k.index) k.order.pairs c.args.who.now c.self.invariant.indexed (sym c.in_err-place.ensures)))
 
 pub returns : goal.returns
 returns c =
     let k = c.self.inside in
-    let it = found_peer (place_in k.index) k.ring.pairs c.args.who.now c.in_ok-place.place c.self.invariant.indexed (sym c.in_ok-place.ensures) in
+    let it = found_peer (place_in k.index) k.order.pairs c.args.who.now c.in_ok-place.place c.self.invariant.indexed (sym c.in_ok-place.ensures) in
     rw (← c.self.view_is) (sym it.stands)

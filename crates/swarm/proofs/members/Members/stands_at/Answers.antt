@@ -12,4 +12,4 @@ returns c equal =
     let who = c.args.who.now in
     let same : same_endpoint item who ≡ true = sym (c.equal_endpoints.ensures.compared item who) ∙ sym c.eq.ensures ∙ equal in
     let is : item ≡ who = (c.equal_endpoints.ensures.same item who).0 same in
-    rw (← c.self.view_is) (placed_at (place_in k.index) k.ring.pairs who c.args.i c.self.invariant.indexed (c.item.ensures ∙ ap Some is))
+    rw (← c.self.view_is) (placed_at (place_in k.index) k.order.pairs who c.args.i c.self.invariant.indexed (c.item.ensures ∙ ap Some is))

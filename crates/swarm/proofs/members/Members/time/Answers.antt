@@ -9,5 +9,5 @@ use Rattle.swarm.proofs.members.Members.time.Goals as goal
 pub returns-clause-orderly : goal.returns-clause-orderly
 returns-clause-orderly c =
     let k = c.self.inside in
-    let P : ℕ → Type 0 = λ a. All (IsYoung a k.ring.time) k.ring.pairs in
-    rw (← c.self.view_is) (orderly (place_in k.index) k.ring.pairs k.ring.time c.self.invariant.indexed c.time.ensures.past (subst P c.self.invariant.ages c.time.ensures.young))
+    let P : ℕ → Type 0 = λ a. All (IsYoung a k.order.time) k.order.pairs in
+    rw (← c.self.view_is) (orderly (place_in k.index) k.order.pairs k.order.time c.self.invariant.indexed c.time.ensures.past (subst P c.self.invariant.ages c.time.ensures.young))
