@@ -15,7 +15,7 @@ use access_list::{AccessList, admits_hash};
 use conn_id::{check, mint};
 use ot_base::{Endpoint, Hashes, Minute, Refusal, Secret};
 use tracker_model::Call;
-use udp_wire::{Quiet, Request, UdpAnnounce, read_request};
+use udp_wire::{Quiet, Request, UdpAnnounce, announce_in, read_request};
 
 /// What is to be done for a datagram.
 #[derive(Debug, Drop)]
@@ -38,6 +38,28 @@ pub enum UdpPlan {
 /// an announce or a stop the port, then whether the access list admits the torrent, if there is a
 /// list.
 pub fn plan_udp(
+    bytes: &[u8],
+    from: Endpoint,
+    minute: Minute,
+    secret: &Secret,
+    access: Option<&AccessList>,
+) -> UdpPlan
+    requires { family_of from.addr ≡ Four }
+    ensures planned { result ≡
+        udp_plan secret.now (option_copied access.entry) from minute (request_of bytes.now) }
+    ensures formed { AllByRecursion IsWellFormed (calls_of result) }
+    ensures complete { IsComplete result }
+{
+    match announce_in(bytes) {
+        Some(announce) => plan_announce(&announce, from, minute, secret, access),
+        None => plan_request(bytes, from, minute, secret, access),
+    }
+}
+
+/// The same, by the whole request. It stays a function of its own, so that an announce doesn't pay
+/// for the room that a request has for the hashes of a scrape.
+#[inline(never)]
+fn plan_request(
     bytes: &[u8],
     from: Endpoint,
     minute: Minute,

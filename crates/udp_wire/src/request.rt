@@ -1,6 +1,7 @@
 //! What a client asks. Places and lengths count bytes.
 
-ghost use Rattle.std.specs.Prelude.{◌≡◌, ◌+◌, ◌*◌, ◌≤◌, length};
+ghost use Rattle.std.specs.Prelude.{◌≡◌, ◌+◌, ◌*◌, ◌≤◌, IfSome, length};
+ghost use Rattle.udp_wire.specs.declared.request.Request.TheVariants.{Announce};
 ghost use Rattle.udp_wire.specs.Packets.{event_of, hashes_of, connect_of, fields_of, announce_of, scrape_of, request_of};
 
 use crate::action::{ANNOUNCE, CONNECT, SCRAPE};
@@ -130,6 +131,19 @@ fn read_announce(bytes: &[u8]) -> Request
         return Request::Silent(Quiet::Announce);
     }
     Request::Announce(read_fields(bytes))
+}
+
+/// What a datagram of any bytes says, where it is an announce. Most are, and so they are read
+/// without the room that a `Request` has for the hashes of a scrape.
+#[tactic(auto, unfolding(crate::specs::Packets::request_of, crate::specs::Packets::announce_of))]
+pub fn announce_in(bytes: &[u8]) -> Option<UdpAnnounce>
+    ensures { IfSome result (λ announce. request_of bytes.now ≡ Announce announce) }
+{
+    if bytes.len() >= WHOLE_ANNOUNCE && u32_at(bytes, ACTION) == ANNOUNCE {
+        Some(read_fields(bytes))
+    } else {
+        None
+    }
 }
 
 /// The fields of a whole announce.
