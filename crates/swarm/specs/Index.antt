@@ -27,7 +27,8 @@ pub record Puts (old new : Endpoint → Option Place) (who : Endpoint) (place : 
   pub here : new who ≡ place
   pub others : (e : Endpoint) → e ≢ who → new e ≡ old e
 
--- the place of an endpoint is lent: what is written is its place, and the others keep theirs; where it has none, all do
+-- the place of an endpoint is lent: what is written is its place, and the others keep theirs;
+-- where it has none, all do
 abbrev pub LendsPlace : MutBor Index → Endpoint → Option (MutBor Place) → Fml
 LendsPlace index who lent =
     LendsSo index_row place_row index lent (λ n w. OnSome lent (Puts (place_in index.now) (place_in n) who (Some w))) (λ n. (e : Endpoint) → place_in n e ≡ place_in index.now e)

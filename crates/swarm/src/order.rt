@@ -131,8 +131,8 @@ impl Order {
     }
 
     /// Whether so much memory isn't used that it is worth giving back: a third of the room or more.
-    /// At least a sixth of the peers that the room was made for have left it, so it doesn't come and
-    /// go with a few peers.
+    /// At least a sixth of the peers that the room was made for have left it, so it doesn't come
+    /// and go with a few peers.
     pub fn is_wide(&self) -> bool {
         self.ring.spare() > self.ring.len() / 2 + 8
     }

@@ -11,9 +11,9 @@ use std::sync::ledger::Ledger;
 /// The live peers of one torrent, those of each family in an order of their own. Contracts see the
 /// two lists and the time.
 ///
-/// A peer takes 32 bytes in its ring, and one of IPv4 six beside it, with up to a quarter of slack
-/// where they grew. In the index it takes 23 bytes, or 45 of IPv6, where endpoints came in a random
-/// order: some 65 or 80 in all. A swarm of one peer takes some 1,100.
+/// A peer takes 32 bytes in its ring and six beside it, with up to a quarter of slack where they
+/// grew. In the index it takes 23 bytes, or 45 of IPv6, where endpoints came in a random order:
+/// some 70 or 90 in all. A swarm of one peer takes some 1,200.
 #[derive(Drop)]
 pub struct Swarm {
     fours: Members,

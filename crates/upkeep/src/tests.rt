@@ -142,8 +142,8 @@ fn announce(port: u16) -> Call
     }
 }
 
-/// Hears so many datagrams of a wire in minute 0, and checks what was done, up to the first for which
-/// there is no memory.
+/// Hears so many datagrams of a wire in minute 0, and checks what was done, up to the first for
+/// which there is no memory.
 fn hear_each<R: Wait + Abort>(
     rt: &R,
     shards: &Shards,
@@ -164,7 +164,8 @@ fn hear_each<R: Wait + Abort>(
     Ok(())
 }
 
-/// The same in new buckets. Gives the torrent's counts after that, and how many calls its bucket had.
+/// The same in new buckets. Gives the torrent's counts after that, and how many calls its bucket
+/// had.
 fn hear_anew<R: Wait + Abort>(
     rt: &R,
     alloc: Global,
