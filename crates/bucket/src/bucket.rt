@@ -1,7 +1,8 @@
 //! A bucket.
 
 ghost use Rattle.std.specs.Prelude.{◌≡◌, ◌≤◌, [], ◌∷◌, ◌++◌, IfOk, ℕ, List, length, max, sum_by};
-ghost use Rattle.tracker_model.specs.Calls.{IsPeer, IsWellFormed};
+ghost use Rattle.tracker_model.specs.Answers.{with_peers};
+ghost use Rattle.tracker_model.specs.Calls.{IsPeer, IsReport, IsWellFormed};
 ghost use Rattle.tracker_model.specs.Kinds.{IsKindOf};
 ghost use Rattle.tracker_model.specs.Making.{scanned};
 ghost use Rattle.tracker_model.specs.Settings.{AreLimits};
@@ -25,7 +26,7 @@ use ot_base::{Counts, Endpoint, InfoHash, Limits, Mark, Minute, Notes, Peers, Ro
 use std::alloc::{AllocError, Global};
 use std::marker::{Brand, Model};
 use std::sync::ledger::Blank;
-use tracker_model::{Answer, Call, Stands};
+use tracker_model::{Answer, Call, ReportAnswer, Stands};
 
 /// One bucket of a tracker: the torrents of a part of all hashes, with their peers.
 #[derive(Drop)]
@@ -99,37 +100,14 @@ impl Bucket {
         // Each arm returns: a value that leaves the match would be moved once more, and answers are
         // large.
         match call {
-            Call::Announce {
-                hash,
-                who,
-                seed,
-                completed,
-                want,
-            } => {
-                let joining = Joining {
-                    hash,
-                    who,
-                    seed,
-                    completed,
-                };
-                let limits = self.limits();
+            Call::Announce { .. } | Call::Stop { .. } => {
                 let mut peers = Peers::new();
-                let outcome = self.announce(minute, &joining, want, words, &mut peers);
-                let counts = match outcome {
-                    Ok(counts) => counts,
-                    Err(error) => return error.answer(&limits),
-                };
-                return Answer::Told { counts, peers };
-            }
-            Call::Stop { hash, who } => {
-                let counts = match self.stop(minute, &hash, &who) {
-                    Ok(counts) => counts,
-                    Err(_) => return Answer::NoMemory,
-                };
-                return Answer::Told {
-                    counts,
-                    peers: Peers::new(),
-                };
+                match self.report(caller, minute, call, words, &mut peers) {
+                    ReportAnswer::Told { counts } => return Answer::Told { counts, peers },
+                    ReportAnswer::SwarmFull { count } => return Answer::SwarmFull { count },
+                    ReportAnswer::BucketFull { count } => return Answer::BucketFull { count },
+                    ReportAnswer::NoMemory => return Answer::NoMemory,
+                }
             }
             Call::Scrape { hash } => {
                 let (counts, known) = self.scrape(caller, minute, &hash);
@@ -161,8 +139,63 @@ impl Bucket {
         }
     }
 
-    /// What `call` answers to an announce; its peers are added to an empty list. Room for the note
-    /// is made first. Where there is no memory for it nothing else than the time changes.
+    /// What `call` answers to an announce or a stop, without the room for an answer's peers: those
+    /// that an announce is told are added to an empty list.
+    pub fn report(
+        &mut self,
+        caller: u32,
+        minute: Minute,
+        call: Call,
+        words: &[u32; 200],
+        told: &mut Peers,
+    ) -> ReportAnswer
+        requires formed { IsWellFormed call }
+        requires report { IsReport call }
+        requires empty { told.old ≡ [] }
+        ensures settings { self.new.settings ≡ self.old.settings }
+        ensures kind { IsKindOf self.old.settings call (with_peers told.new result) }
+        ensures stands { (history : List Entry) → StandsFor history self.old →
+            StandsFor (history ++ (record {
+              caller = caller;
+              minute = minute;
+              call = call;
+              answer = with_peers told.new result;
+            }) ∷ []) self.new }
+        ensures chosen { IsChosen words.now self.new call (with_peers told.new result) }
+        ensures order { KeepsOrder call self.old self.new }
+    {
+        match call {
+            Call::Announce {
+                hash,
+                who,
+                seed,
+                completed,
+                want,
+            } => {
+                let joining = Joining {
+                    hash,
+                    who,
+                    seed,
+                    completed,
+                };
+                let limits = self.limits();
+                match self.announce(minute, &joining, want, words, told) {
+                    Ok(counts) => ReportAnswer::Told { counts },
+                    Err(error) => error.report(&limits),
+                }
+            }
+            Call::Stop { hash, who } => match self.stop(minute, &hash, &who) {
+                Ok(counts) => ReportAnswer::Told { counts },
+                Err(_) => ReportAnswer::NoMemory,
+            },
+            Call::Scrape { .. } | Call::Scan | Call::Clean | Call::Sync { .. } | Call::Drain => {
+                unreachable!()
+            }
+        }
+    }
+
+    /// What `report` answers to an announce. Room for the note is made first. Where there is no
+    /// memory for it nothing else than the time changes.
     fn announce(
         &mut self,
         minute: Minute,
@@ -205,7 +238,7 @@ impl Bucket {
         Ok(counts)
     }
 
-    /// What `call` answers to a stop. Room for the note is made first.
+    /// What `report` answers to a stop. Room for the note is made first.
     fn stop(
         &mut self,
         minute: Minute,

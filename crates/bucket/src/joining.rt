@@ -1,12 +1,14 @@
 //! Endpoints that take part in torrents, and why they may not.
 
-ghost use Rattle.std.specs.Prelude.{◌≡◌, if◌then◌else◌};
+ghost use Rattle.std.specs.Prelude.{◌≡◌, List, if◌then◌else◌};
+ghost use Rattle.ot_base.specs.declared.address.Endpoint.{Endpoint};
+ghost use Rattle.tracker_model.specs.Answers.{with_peers};
 ghost use Rattle.bucket.specs.Answers.{error_answer};
 ghost use Rattle.bucket.specs.declared.joining.JoinError.TheVariants.{NoMemory};
 
 use ot_base::{Endpoint, InfoHash, Limits};
 use std::alloc::{AllocError, AllocFailed};
-use tracker_model::Answer;
+use tracker_model::{Answer, ReportAnswer};
 
 /// An endpoint that takes part in a torrent.
 #[derive(Clone, Copy)]
@@ -38,7 +40,22 @@ impl JoinError {
         if is_met { self } else { JoinError::NoMemory }
     }
 
-    /// What an announce is answered then.
+    /// What a report is answered then.
+    pub fn report(self, limits: &Limits) -> ReportAnswer
+        ensures { (told : List Endpoint) → with_peers told result ≡ error_answer limits.now self }
+    {
+        match self {
+            JoinError::SwarmFull => ReportAnswer::SwarmFull {
+                count: limits.peers,
+            },
+            JoinError::BucketFull => ReportAnswer::BucketFull {
+                count: limits.torrents,
+            },
+            JoinError::NoMemory => ReportAnswer::NoMemory,
+        }
+    }
+
+    /// What a sync is answered then.
     pub fn answer(self, limits: &Limits) -> Answer
         ensures { result ≡ error_answer limits.now self }
     {

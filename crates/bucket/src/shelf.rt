@@ -6,10 +6,10 @@ ghost use Rattle.tracker_model.specs.declared.answer.Answer.TheVariants.{Cleaned
 ghost use Rattle.tracker_model.specs.declared.call.Call.TheVariants.{Clean, Scan, Scrape};
 
 use crate::Bucket;
-use ot_base::{Counts, InfoHash, Limits, Minute, Rows, bucket_of};
+use ot_base::{Counts, InfoHash, Limits, Minute, Peers, Rows, bucket_of};
 use std::alloc::{AllocError, Global};
 use std::marker::Model;
-use tracker_model::{Answer, Call, Tracker};
+use tracker_model::{Answer, Call, ReportAnswer, Tracker};
 
 /// All buckets of a tracker, 2^`bits` of them, for one thread. A torrent's bucket is the one of the
 /// number that the first `bits` bits of its hash make, and each call is made by caller 0.
@@ -189,9 +189,15 @@ impl Tracker for Shelf {
         self.bits
     }
 
-    fn report(&mut self, minute: Minute, call: Call, words: &[u32; 200]) -> Answer {
+    fn report(
+        &mut self,
+        minute: Minute,
+        call: Call,
+        words: &[u32; 200],
+        told: &mut Peers,
+    ) -> ReportAnswer {
         let bucket = self.bucket_for(&call);
-        self.buckets[bucket].call(0, minute, call, words)
+        self.buckets[bucket].report(0, minute, call, words, told)
     }
 
     fn scrape(&mut self, minute: Minute, hash: &InfoHash) -> (Counts, bool) {

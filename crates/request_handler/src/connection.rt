@@ -11,6 +11,7 @@ ghost use Rattle.tracker_core.specs.HttpPlan.{IsBounded, IsCompleteHttp, Scrapes
 ghost use Rattle.tracker_core.specs.HttpPlan.{http_calls};
 ghost use Rattle.tracker_core.specs.HttpText.{announce_body, family_asking, http_text, scrape_body};
 ghost use Rattle.tracker_core.specs.HttpText.{scraped_row, scraped_rows};
+ghost use Rattle.tracker_model.specs.Answers.{with_peers};
 ghost use Rattle.tracker_model.specs.Calls.{IsReport, IsWellFormed};
 ghost use Rattle.tracker_model.specs.Placed.{bucket_for, bucket_in, placed_calls};
 ghost use Rattle.tracker_model.specs.declared.answer.Answer.{Answer};
@@ -20,10 +21,10 @@ ghost use Rattle.request_handler.specs.Connection.{http_placed};
 ghost use Rattle.request_handler.specs.Making.{Gives, MakesFront};
 
 use http_wire::{Code, write_reply};
-use ot_base::{Bytes, Family, HashList, InfoHash, Minute, Row, Rows};
+use ot_base::{Bytes, Family, HashList, InfoHash, Minute, Peers, Row, Rows};
 use std::alloc::{AllocError, Global};
 use tracker_core::{ConnectionPlan, HttpPlan, finish_announce, finish_scrape, refused_body};
-use tracker_model::{Answer, Call, Tracker};
+use tracker_model::{Call, ReportAnswer, Tracker};
 
 /// Serves a connection by its plan at a minute, where that isn't to tell all torrents: makes the
 /// plan's calls, and gives all bytes that are sent on it. Before a head is whole nothing is. An
@@ -105,29 +106,27 @@ fn announce<T: Tracker>(
         tracker.new
         × IfOk result (λ body. announce_body (family_asking call) answer ≡ Some body) }
 {
-    body_of(
-        alloc,
-        asker_family(&call),
-        tracker.report(minute, call, words),
-    )
+    let mut told = Peers::new();
+    let answer = tracker.report(minute, call, words, &mut told);
+    body_of(alloc, asker_family(&call), answer, &told)
 }
 
-/// The body of the reply to an announce or a stop. The answer comes by value, since so it is made
-/// where it is read.
-fn body_of(alloc: Global, family: Family, answer: Answer) -> Result<Bytes, AllocError>
-    requires { IsBodyAnswer family answer }
-    ensures { IfOk result (λ body. announce_body family answer ≡ Some body) }
+/// The body of the reply to an announce or a stop that is told these peers.
+fn body_of(
+    alloc: Global,
+    family: Family,
+    answer: ReportAnswer,
+    told: &Peers,
+) -> Result<Bytes, AllocError>
+    requires { IsBodyAnswer family (with_peers told.now answer) }
+    ensures { IfOk result (λ body. announce_body family (with_peers told.now answer) ≡
+        Some body) }
 {
-    match &answer {
-        Answer::NoMemory => Err(AllocError),
-        Answer::Told { .. } | Answer::SwarmFull { .. } | Answer::BucketFull { .. } => {
-            finish_announce(alloc, family, &answer)
-        }
-        Answer::Stats { .. }
-        | Answer::Rows { .. }
-        | Answer::Cleaned { .. }
-        | Answer::Applied
-        | Answer::Drained { .. } => unreachable!(),
+    match answer {
+        ReportAnswer::NoMemory => Err(AllocError),
+        ReportAnswer::Told { .. }
+        | ReportAnswer::SwarmFull { .. }
+        | ReportAnswer::BucketFull { .. } => finish_announce(alloc, family, answer, told),
     }
 }
 

@@ -4,6 +4,7 @@ ghost use Rattle.std.specs.Prelude.{◌≡◌, ◌≤◌, length, List, map, tak
 ghost use Rattle.std.specs.List.{AllByRecursion};
 ghost use Rattle.tracker_core.specs.UdpPlan.{IsComplete, IsReport, calls_of};
 ghost use Rattle.tracker_core.specs.UdpText.{all_counts};
+ghost use Rattle.tracker_model.specs.Answers.{with_peers};
 ghost use Rattle.tracker_model.specs.Calls.{IsWellFormed};
 ghost use Rattle.tracker_model.specs.Placed.{bucket_for, bucket_in, placed_calls};
 ghost use Rattle.tracker_model.specs.declared.answer.Answer.{Answer};
@@ -14,9 +15,9 @@ ghost use Rattle.request_handler.specs.Datagram.{CarriesOut, HasRoom, IsReportAn
 ghost use Rattle.request_handler.specs.Datagram.{IsReportOutcome};
 ghost use Rattle.request_handler.specs.Making.{Gives};
 
-use ot_base::{CountList, Hashes, InfoHash, Minute};
+use ot_base::{CountList, Hashes, InfoHash, Minute, Peers};
 use tracker_core::{UdpPlan, finish_udp};
-use tracker_model::{Answer, Call, Tracker};
+use tracker_model::{Call, ReportAnswer, Tracker};
 use udp_wire::{Quiet, REPLY_ROOM, write_connect, write_error, write_scrape};
 
 /// What came of a plan.
@@ -67,7 +68,7 @@ pub fn carry_out<T: Tracker>(
 }
 
 /// Makes the call of an announce or a stop, and writes its reply. It stays a function of its own,
-/// so that no other datagram pays for the room of an answer.
+/// so that no other datagram pays for the room of peers.
 #[inline(never)]
 fn announce<T: Tracker>(
     tracker: &mut T,
@@ -87,26 +88,29 @@ fn announce<T: Tracker>(
         × IsReportOutcome transaction answer reply.new result }
     ensures fits { HasRoom result }
 {
-    write_answer(transaction, tracker.report(minute, call, words), reply)
+    let mut told = Peers::new();
+    let answer = tracker.report(minute, call, words, &mut told);
+    write_answer(transaction, answer, &told, reply)
 }
 
-/// Writes the reply to an announce or a stop. The answer comes by value, since so it is made where
-/// it is read.
-fn write_answer(transaction: u32, answer: Answer, reply: &mut [u8; REPLY_ROOM]) -> Outcome
-    requires { IsReportAnswer answer }
-    ensures came { IsReportOutcome transaction answer reply.new result }
+/// Writes the reply to an announce or a stop that is told these peers.
+fn write_answer(
+    transaction: u32,
+    answer: ReportAnswer,
+    told: &Peers,
+    reply: &mut [u8; REPLY_ROOM],
+) -> Outcome
+    requires { IsReportAnswer (with_peers told.now answer) }
+    ensures came { IsReportOutcome transaction (with_peers told.now answer) reply.new result }
     ensures fits { HasRoom result }
 {
-    match &answer {
-        Answer::NoMemory => Outcome::NoMemory,
-        Answer::Told { .. } | Answer::SwarmFull { .. } | Answer::BucketFull { .. } => {
-            Outcome::Replied(finish_udp(transaction, &answer, reply))
+    match answer {
+        ReportAnswer::NoMemory => Outcome::NoMemory,
+        ReportAnswer::Told { .. }
+        | ReportAnswer::SwarmFull { .. }
+        | ReportAnswer::BucketFull { .. } => {
+            Outcome::Replied(finish_udp(transaction, answer, told, reply))
         }
-        Answer::Stats { .. }
-        | Answer::Rows { .. }
-        | Answer::Cleaned { .. }
-        | Answer::Applied
-        | Answer::Drained { .. } => unreachable!(),
     }
 }
 

@@ -11,7 +11,7 @@ use ot_base::{Addr, Counts, Endpoint, Hashes, InfoHash, Minute, Peers, Refusal, 
 use std::alloc::{AllocError, Global};
 use std::test::Fail;
 use tracker_core::{UdpPlan, plan_connection};
-use tracker_model::{Answer, Call, Tracker};
+use tracker_model::{Call, ReportAnswer, Tracker};
 use udp_wire::{Quiet, REPLY_ROOM};
 
 /// A tracker of two buckets with a torrent in each, whose answers tell the number of the call, from
@@ -52,11 +52,16 @@ impl Tracker for Numbered {
         1
     }
 
-    fn report(&mut self, minute: Minute, call: Call, _words: &[u32; 200]) -> Answer {
+    fn report(
+        &mut self,
+        minute: Minute,
+        call: Call,
+        _words: &[u32; 200],
+        _told: &mut Peers,
+    ) -> ReportAnswer {
         match call {
-            Call::Announce { .. } | Call::Stop { .. } => Answer::Told {
+            Call::Announce { .. } | Call::Stop { .. } => ReportAnswer::Told {
                 counts: self.counts(minute),
-                peers: Peers::new(),
             },
             Call::Scrape { .. } | Call::Scan | Call::Clean | Call::Sync { .. } | Call::Drain => {
                 unreachable!()

@@ -5,10 +5,11 @@ ghost use Rattle.std.specs.Prelude.{◌≡◌};
 use crate::call::place_of;
 use crate::pass::Pass;
 use crate::shards::Shards;
-use ot_base::{Counts, InfoHash, Minute, Rows};
+use ot_base::{Counts, InfoHash, Minute, Peers, Rows};
 use std::alloc::AllocError;
 use std::sync::Wait;
-use tracker_model::{Answer, Call, Tracker};
+use tracker_model::{Answer, Call, ReportAnswer, Tracker};
+use turn_lock::AsAnswer;
 
 /// What one caller has of the shards, while it makes calls: its pass.
 #[derive(Drop)]
@@ -17,6 +18,19 @@ pub struct Seat<'a, R> {
     pub shards: &'a Shards,
     pub pass: &'a mut Pass,
     ghost of_shards: { pass.now.shards ≡ shards.now },
+}
+
+/// What a report is answered, with the peers that it is told.
+#[derive(Clone, Copy)]
+struct Reported<'a> {
+    answer: ReportAnswer,
+    told: &'a Peers,
+}
+
+impl AsAnswer for Reported<'_> {
+    ghost use Rattle.tracker_model.specs.Answers.{with_peers};
+
+    ghost answer = { λ reported. with_peers reported.told.now reported.answer };
 }
 
 impl<R: Wait> Tracker for Seat<'_, R> {
@@ -35,17 +49,21 @@ impl<R: Wait> Tracker for Seat<'_, R> {
         shards.bits
     }
 
-    // It makes the call itself: an answer that came out of a function beside it would be moved once
-    // more, and answers are large.
-    fn report(&mut self, minute: Minute, call: Call, words: &[u32; 200]) -> Answer {
+    fn report(
+        &mut self,
+        minute: Minute,
+        call: Call,
+        words: &[u32; 200],
+        told: &mut Peers,
+    ) -> ReportAnswer {
         let shards = self.shards;
         let pass = &mut *self.pass;
         let bucket = place_of(shards.bits, &call);
         let lock = &shards.locks[bucket as usize];
         let turn = &mut pass.turns[bucket as usize];
         let mut kept = lock.take(self.rt, turn);
-        let answer = kept.call(pass.caller, minute, call, words);
-        lock.give(turn, kept, minute, &call, &answer);
+        let answer = kept.report(pass.caller, minute, call, words, told);
+        lock.give(turn, kept, minute, &call, &Reported { answer, told });
         answer
     }
 

@@ -12,6 +12,7 @@ ghost use Rattle.ot_base.specs.Address.{family_of};
 ghost use Rattle.ot_base.specs.Order.{hash_cmp};
 ghost use Rattle.udp_wire.specs.Packets.{peer_bytes, peer_len};
 ghost use Rattle.udp_wire.specs.Replies.{IsOf32Bits};
+ghost use Rattle.tracker_model.specs.Answers.{with_peers};
 ghost use Rattle.tracker_core.specs.HttpText.{HasBody, IsRow, announce_body, counts_text};
 ghost use Rattle.tracker_core.specs.HttpText.{failure_body, peer_len_of, peers_key, peers_text};
 ghost use Rattle.tracker_core.specs.HttpText.{row_text, scrape_body, told_body};
@@ -20,7 +21,7 @@ use itoa::Buffer;
 use ot_base::peers::PEERS;
 use ot_base::{Addr, Bytes, Counts, Endpoint, Family, Peers, Refusal, Row, Rows};
 use std::alloc::{AllocError, Global};
-use tracker_model::Answer;
+use tracker_model::ReportAnswer;
 
 /// How many bytes tell an announce of all but its peers, at most.
 const TOLD_ROOM: usize = 132;
@@ -31,23 +32,24 @@ const ROW_ROOM: usize = 97;
 /// How many bytes tell why a request is refused, at most.
 const FAILURE_ROOM: usize = 39;
 
-/// The body that answers an announce or a stop of a client of this family: the counts and other
-/// peers, or that the swarm or the tracker is full.
-pub fn finish_announce(alloc: Global, family: Family, answer: &Answer) -> Result<Bytes, AllocError>
-    requires { HasBody family answer.now }
-    ensures text { IfOk result (λ body. announce_body family answer.now ≡ Some body) }
+/// The body that answers an announce or a stop of a client of this family, which is told these
+/// peers: the counts and the peers, or that the swarm or the tracker is full.
+pub fn finish_announce(
+    alloc: Global,
+    family: Family,
+    answer: ReportAnswer,
+    told: &Peers,
+) -> Result<Bytes, AllocError>
+    requires { HasBody family (with_peers told.now answer) }
+    ensures text { IfOk result (λ body.
+        announce_body family (with_peers told.now answer) ≡ Some body) }
     ensures canonical { IfOk result IsCanonical }
 {
     match answer {
-        Answer::Told { counts, peers } => told_body(alloc, family, *counts, peers),
-        Answer::SwarmFull { .. } => refused_body(alloc, Refusal::SwarmFull),
-        Answer::BucketFull { .. } => refused_body(alloc, Refusal::TrackerFull),
-        Answer::NoMemory
-        | Answer::Stats { .. }
-        | Answer::Rows { .. }
-        | Answer::Cleaned { .. }
-        | Answer::Applied
-        | Answer::Drained { .. } => unreachable!(),
+        ReportAnswer::Told { counts } => told_body(alloc, family, counts, told),
+        ReportAnswer::SwarmFull { .. } => refused_body(alloc, Refusal::SwarmFull),
+        ReportAnswer::BucketFull { .. } => refused_body(alloc, Refusal::TrackerFull),
+        ReportAnswer::NoMemory => unreachable!(),
     }
 }
 

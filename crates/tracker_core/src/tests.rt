@@ -6,6 +6,7 @@ ghost use Rattle.std.specs.Option.{ForSome};
 ghost use Rattle.ot_base.specs.Address.{family_of};
 ghost use Rattle.ot_base.specs.Order.{hash_cmp};
 ghost use Rattle.ot_base.specs.declared.address.Family.TheVariants.{Four};
+ghost use Rattle.tracker_model.specs.Answers.{with_peers};
 ghost use Rattle.tracker_core.specs.HttpText.{HasBody};
 
 use super::*;
@@ -18,7 +19,7 @@ use ot_base::{
 };
 use std::alloc::{AllocError, Global};
 use std::test::Fail;
-use tracker_model::{Answer, Call};
+use tracker_model::{Call, ReportAnswer};
 
 /// The client that asks.
 const FROM: Endpoint = Endpoint {
@@ -423,9 +424,9 @@ fn long_heads_are_rejected(rt: HostRuntime) -> Result<(), Fail> {
 }
 
 /// What an announce is told of a torrent with no downloads, and at most one other peer.
-fn told(complete: u32, incomplete: u32, peer: Option<Endpoint>) -> Answer
+fn told(complete: u32, incomplete: u32, peer: Option<Endpoint>) -> (ReportAnswer, Peers)
     requires { ForSome peer (λ p. family_of p.addr ≡ Four) }
-    ensures { HasBody Four result }
+    ensures { HasBody Four (with_peers result.1 result.0) }
 {
     let counts = Counts {
         complete,
@@ -436,7 +437,7 @@ fn told(complete: u32, incomplete: u32, peer: Option<Endpoint>) -> Answer
     if let Some(peer) = peer {
         peers.push(peer);
     }
-    Answer::Told { counts, peers }
+    (ReportAnswer::Told { counts }, peers)
 }
 
 #[test]
@@ -445,7 +446,7 @@ fn announces_are_answered(rt: HostRuntime) -> Result<(), Fail> {
         addr: Addr::V4([192, 0, 2, 1]),
         port: 6881,
     };
-    let rows: [(Answer, &[u8]); 4] = [
+    let rows: [((ReportAnswer, Peers), &[u8]); 4] = [
         (
             told(1, 0, None),
             b"d8:completei1e10:downloadedi0e10:incompletei0e\
@@ -457,16 +458,16 @@ fn announces_are_answered(rt: HostRuntime) -> Result<(), Fail> {
             8:intervali1800e12:min intervali900e5:peers6:\xc0\x00\x02\x01\x1a\xe1e",
         ),
         (
-            Answer::SwarmFull { count: 2 },
+            (ReportAnswer::SwarmFull { count: 2 }, Peers::new()),
             b"d14:failure reason13:swarm is fulle",
         ),
         (
-            Answer::BucketFull { count: 1 },
+            (ReportAnswer::BucketFull { count: 1 }, Peers::new()),
             b"d14:failure reason15:tracker is fulle",
         ),
     ];
-    for (answer, expected) in &rows {
-        let body = finish_announce(rt.alloc(), Family::Four, answer)?;
+    for ((answer, peers), expected) in &rows {
+        let body = finish_announce(rt.alloc(), Family::Four, *answer, peers)?;
         assert_eq!(rt; body.as_slice(), *expected);
         assert!(rt; is_canonical(body.as_slice()));
     }
@@ -480,11 +481,10 @@ fn peers_of_six_are_told(rt: HostRuntime) -> Result<(), Fail> {
         addr: Addr::V6(*b"0123456789abcdef"),
         port: 0x5a5a,
     });
-    let answer = Answer::Told {
+    let answer = ReportAnswer::Told {
         counts: Counts::default(),
-        peers,
     };
-    let body = finish_announce(rt.alloc(), Family::Six, &answer)?;
+    let body = finish_announce(rt.alloc(), Family::Six, answer, &peers)?;
     assert_eq!(rt;
         body.as_slice(),
         b"d8:completei0e10:downloadedi0e10:incompletei0e8:intervali1800e12:min intervali900e\
@@ -548,7 +548,8 @@ fn usual_client_is_answered(rt: HostRuntime) -> Result<(), Fail> {
         Host: tracker.example:6969\r\nAccept: */*\r\nAccept-Encoding: deflate, gzip\r\n\r\n";
     let plan = plan_connection(rt.alloc(), request, FROM, None, false)?;
     assert_eq!(rt; connection_outcome(&plan), "announce");
-    let body = finish_announce(rt.alloc(), Family::Four, &told(1, 0, None))?;
+    let (answer, peers) = told(1, 0, None);
+    let body = finish_announce(rt.alloc(), Family::Four, answer, &peers)?;
     let reply = write_reply(rt.alloc(), Code::Ok, body.as_slice())?;
     assert_eq!(rt;
         reply.as_slice(),

@@ -1,3 +1,4 @@
+pub mod Answers
 pub mod Calls
 pub mod Counted
 pub mod Entries

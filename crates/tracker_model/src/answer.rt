@@ -26,3 +26,17 @@ pub enum Answer {
     /// There was no memory.
     NoMemory,
 }
+
+/// An answer to a report, which is an announce or a stop, without its peers: those come into room
+/// of the caller's, so that they needn't be moved.
+#[derive(Clone, Copy, Debug, PartialEq, Eq)]
+pub enum ReportAnswer {
+    /// The torrent's counts after it.
+    Told { counts: Counts },
+    /// The torrent has `count` live peers, as many as it may have.
+    SwarmFull { count: u32 },
+    /// The bucket knows `count` torrents, as many as it may know.
+    BucketFull { count: u32 },
+    /// There was no memory.
+    NoMemory,
+}

@@ -11,7 +11,7 @@ pub mod limits;
 pub mod stands;
 pub mod tracker;
 
-pub use answer::Answer;
+pub use answer::{Answer, ReportAnswer};
 pub use call::Call;
 pub use entry::Entry;
 pub use limits::{OUTBOX_NOTES, PEER_MINUTES, TORRENT_MINUTES, WANTED_PEERS};

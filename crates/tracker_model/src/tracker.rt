@@ -1,7 +1,8 @@
 //! The buckets of a tracker, as one caller has them.
 
-ghost use Rattle.std.specs.Prelude.{◌≡◌, ◌<◌, ◌≤◌, ◌^◌, ℕ, false};
+ghost use Rattle.std.specs.Prelude.{◌≡◌, ◌<◌, ◌≤◌, ◌^◌, [], ℕ};
 ghost use Rattle.ot_base.specs.declared.minute.Minute.{Minute};
+ghost use Rattle.tracker_model.specs.Answers.{with_peers};
 ghost use Rattle.tracker_model.specs.Calls.{IsReport, IsWellFormed};
 ghost use Rattle.tracker_model.specs.Kinds.{IsKindOf};
 ghost use Rattle.tracker_model.specs.Making.{scanned};
@@ -12,8 +13,8 @@ ghost use Rattle.tracker_model.specs.declared.answer.Answer.TheVariants.{Cleaned
 ghost use Rattle.tracker_model.specs.declared.call.Call.{Call};
 ghost use Rattle.tracker_model.specs.declared.call.Call.TheVariants.{Clean, Scan, Scrape};
 
-use crate::{Answer, Call};
-use ot_base::{Counts, InfoHash, Minute, Rows};
+use crate::{Call, ReportAnswer};
+use ot_base::{Counts, InfoHash, Minute, Peers, Rows};
 use std::alloc::AllocError;
 
 /// The buckets of a tracker, as one caller has them: alone on one thread, or as one of several.
@@ -34,16 +35,23 @@ pub trait Tracker {
         ensures bits { result ≡ bits self.now }
         ensures few { result ≤ 10 };
 
-    /// Makes an announce or a stop on its torrent's bucket. An announce is told the peers that
-    /// `words` choose.
-    fn report(&mut self, minute: Minute, call: Call, words: &[u32; 200]) -> Answer
+    /// Makes an announce or a stop on its torrent's bucket. The peers that an announce is told,
+    /// those that `words` choose, are added to an empty list.
+    fn report(
+        &mut self,
+        minute: Minute,
+        call: Call,
+        words: &[u32; 200],
+        told: &mut Peers,
+    ) -> ReportAnswer
         requires formed { IsWellFormed call }
         requires report { IsReport call }
+        requires empty { told.old ≡ [] }
         ensures settings { settings self.new ≡ settings self.old }
         ensures bits { bits self.new ≡ bits self.old }
-        ensures kind { IsKindOf (settings self.old) call result }
+        ensures kind { IsKindOf (settings self.old) call (with_peers told.new result) }
         ensures made { made self.old (bucket_for (bucket_in (bits self.old)) call) minute call
-            result self.new };
+            (with_peers told.new result) self.new };
 
     /// Scrapes a torrent: its counts, and whether it is known.
     fn scrape(&mut self, minute: Minute, hash: &InfoHash) -> (Counts, bool)

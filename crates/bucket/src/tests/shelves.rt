@@ -5,7 +5,8 @@ ghost use Rattle.tracker_model.specs.Calls.{IsReport, IsWellFormed, names_torren
 ghost use Rattle.tracker_model.specs.Settings.{AreLimits};
 
 use super::*;
-use tracker_model::Tracker;
+use ot_base::{Counts, Peers};
+use tracker_model::{ReportAnswer, Tracker};
 
 /// Asks a shelf once, and again where there was no memory.
 fn ask_shelf(shelf: &mut Shelf, call: Call) -> Answer
@@ -119,12 +120,14 @@ fn finished(hash: InfoHash) -> Call
 }
 
 /// Announces a seed that has just finished, once, and again where there was no memory.
-fn report<T: Tracker>(tracker: &mut T, hash: InfoHash) -> Answer
+fn report<T: Tracker>(tracker: &mut T, hash: InfoHash) -> ReportAnswer
     ensures settings { T.settings tracker.new ≡ T.settings tracker.old }
     ensures bits { T.bits tracker.new ≡ T.bits tracker.old }
 {
-    match tracker.report(Minute(0), finished(hash), &WORDS) {
-        Answer::NoMemory => tracker.report(Minute(0), finished(hash), &WORDS),
+    match tracker.report(Minute(0), finished(hash), &WORDS, &mut Peers::new()) {
+        ReportAnswer::NoMemory => {
+            tracker.report(Minute(0), finished(hash), &WORDS, &mut Peers::new())
+        }
         answer => answer,
     }
 }
@@ -138,8 +141,12 @@ fn visit<T: Tracker>(
 ) -> Result<(), AllocError>
     requires within { bucket < 2 ^ T.bits tracker.old }
 {
-    let told = report(tracker, hash);
-    expect(rt, "reported", &told, Outcome::Told(1, 1, 0, None));
+    let counts = Counts {
+        complete: 1,
+        downloaded: 1,
+        incomplete: 0,
+    };
+    assert_eq!(rt; report(tracker, hash), ReportAnswer::Told { counts });
     let (counts, known) = tracker.scrape(Minute(0), &hash);
     let scraped = Answer::Stats { counts, known };
     expect(rt, "scraped", &scraped, Outcome::Stats(1, 1, 0, true));

@@ -3,14 +3,16 @@
 ghost use Rattle.std.specs.Prelude.{◌<◌, ◌^◌};
 
 use super::*;
-use tracker_model::Tracker;
+use ot_base::Peers;
+use tracker_model::{ReportAnswer, Tracker};
 
 /// Announces a peer to a tracker, and asks for it in each other way.
 fn visit<R: Abort, T: Tracker>(rt: &R, tracker: &mut T, bucket: u32) -> Result<(), AllocError>
     requires within { bucket < 2 ^ T.bits tracker.old }
 {
-    let told = tracker.report(Minute(0), announce(A, 1), &WORDS);
-    assert!(rt; matches!(told, Answer::Told { .. }));
+    let mut told = Peers::new();
+    let answer = tracker.report(Minute(0), announce(A, 1), &WORDS, &mut told);
+    assert!(rt; matches!(answer, ReportAnswer::Told { .. }));
     let (counts, known) = tracker.scrape(Minute(0), &A);
     assert_eq!(rt; (counts.complete, counts.incomplete, known), (0, 1, true));
     let live = tracker.clean(bucket, Minute(44));
