@@ -258,30 +258,77 @@ late_count words n k done later is late few within =
     ap length is ∙ length-reverse (picks_from words n (k - done) done) ∙ (late_apart words n k done late few within).count
 
 -- late picks are below n by as many as there are words before theirs
-pub late_below : (words : List ℕ) (n k done most : ℕ) (later : List ℕ) → IsLate words n k done later → done < k → k ≤ n → k ≤ length words → n < most → All (λ position. position + 1 < most) later
+pub late_below : (words : List ℕ) (n k done most : ℕ) (later : List ℕ) → IsLate words n k done later → done < k → k ≤ n → k ≤ length words → n < most → All (λ position. position + 2 < most) later
 late_below words n k done most later is late few within small =
     let picked = picks_from words n (k - done) done in
     let below = (late_apart words n k done (omega arith) few within).below in
-    let P : List ℕ → Type 0 = λ l. All (λ position. position + 1 < most) l in
-    subst P (sym is) (All-permutation (λ position. position + 1 < most) picked (reverse picked) (IsPermutation-reverse picked) (λ i d h. omega (arith, below i d h)))
+    let P : List ℕ → Type 0 = λ l. All (λ position. position + 2 < most) l in
+    subst P (sym is) (All-permutation (λ position. position + 2 < most) picked (reverse picked) (IsPermutation-reverse picked) (λ i d h. omega (arith, below i d h)))
 
 -- one pick more before the late ones, which pass over it
-pub late_more : (words : List ℕ) (n k done : ℕ) (later lent passed : List ℕ) → IsLate words n k done later → done < k → k ≤ n → k ≤ length words → lent ≡ later → passed ≡ map (past (get_or words (k - 1 - done) 0 % (n - (k - 1 - done)))) lent
-    → IsLate words n k (done + 1) (refill (length later) later passed ++ (get_or words (k - 1 - done) 0 % (n - (k - 1 - done))) ∷ [])
-late_more words n k done later lent passed is late few within same over =
-    let j = k - 1 - done in
+late_more : (words : List ℕ) (n k done j : ℕ) (later : List ℕ) → IsLate words n k done later → done + j + 1 ≡ k → k ≤ n → k ≤ length words → IsLate words n k (done + 1) (map (past (get_or words j 0 % (n - j))) later ++ (get_or words j 0 % (n - j)) ∷ [])
+late_more words n k done j later is late few within =
     let r = get_or words j 0 % (n - j) in
     let f = past r in
     let picked = picks_from words n (j + 1) done in
     let here : k - (done + 1) ≡ j = omega arith in
     let next : j + 1 ≡ k - done = omega arith in
-    let count : length passed ≡ length later = ap length over ∙ length-map lent f ∙ ap length same in
-    let whole : refill (length later) later passed ≡ passed = take_at passed (drop (length passed) later) (length later) count in
-    let turned : passed ≡ reverse (map f picked) = over ∙ ap (map f) (same ∙ is ∙ ap (λ i. reverse (picks_from words n i done)) (sym next)) ∙ map_reverse f picked in
-    ap (λ l. l ++ r ∷ []) (whole ∙ turned)
+    let turned : map f later ≡ reverse (map f picked) = ap (map f) (is ∙ ap (λ i. reverse (picks_from words n i done)) (sym next)) ∙ map_reverse f picked in
+    ap (λ l. l ++ r ∷ []) turned
     ∙ sym (reverse_cons r (map f picked))
     ∙ ap reverse (sym (picks_before words n j done (omega arith) (omega arith)))
     ∙ ap (λ i. reverse (picks_from words n i (done + 1))) (sym here)
+
+-- late picks that were lent and passed over, and given back
+refilled : (later lent passed : List ℕ) (f : ℕ → ℕ) → lent ≡ later → passed ≡ map f lent → refill (length later) later passed ≡ map f later
+refilled later lent passed f same over =
+    let count : length passed ≡ length later = ap length over ∙ length-map lent f ∙ ap length same in
+    take_at passed (drop (length passed) later) (length later) count ∙ over ∙ ap (map f) same
+
+map_twice : (f g : ℕ → ℕ) (xs : List ℕ) → map f (map g xs) ≡ map (λ x. f (g x)) xs
+map_twice f g [] = refl
+map_twice f g (x ∷ xs) = ap (λ l. f (g x) ∷ l) (map_twice f g xs)
+
+-- positions before a gap stay
+past_all : (gap : ℕ) (xs : List ℕ) → AllByRecursion (λ x. x < gap) xs → map (past gap) xs ≡ xs
+past_all gap [] all = refl
+past_all gap (x ∷ xs) all = ap (λ y. y ∷ map (past gap) xs) (past_below gap x all.0) ∙ ap (λ l. x ∷ l) (past_all gap xs all.1)
+
+-- two picks more before the late ones, which pass over both
+pub late_two : (words : List ℕ) (n k done j : ℕ) (later lent passed : List ℕ) (first second : ℕ) → IsLate words n k done later → done + j + 2 ≡ k → k ≤ n → k ≤ length words → lent ≡ later → first ≡ get_or words j 0 % (n - j) → second ≡ get_or words (j + 1) 0 % (n - j - 1) → passed ≡ map (λ p. past first (past second p)) lent
+    → IsLate words n k (done + 2) ((refill (length later) later passed ++ past first second ∷ []) ++ first ∷ [])
+late_two words n k done j later lent passed first second is late few within same by_first by_second over =
+    let r = get_or words j 0 % (n - j) in
+    let s = get_or words (j + 1) 0 % (n - (j + 1)) in
+    let fewer : n - j - 1 ≡ n - (j + 1) = omega arith in
+    let as_s : second ≡ s = by_second ∙ ap (λ m. get_or words (j + 1) 0 % m) fewer in
+    let one : IsLate words n k (done + 1) (map (past s) later ++ s ∷ []) = late_more words n k done (j + 1) later is (omega arith) few within in
+    let two : IsLate words n k (done + 1 + 1) (map (past r) (map (past s) later ++ s ∷ []) ++ r ∷ []) = late_more words n k (done + 1) j (map (past s) later ++ s ∷ []) one (omega arith) few within in
+    let both_passed : refill (length later) later passed ++ past first second ∷ [] ≡ map (past first) (map (past second) later ++ second ∷ []) =
+    ap (λ l. l ++ past first second ∷ []) (refilled later lent passed (λ p. past first (past second p)) same over ∙ sym (map_twice (past first) (past second) later))
+    ∙ sym (map-append (past first) (map (past second) later) (second ∷ [])) in
+    let count : done + 1 + 1 ≡ done + 2 = omega arith in
+    ap (λ l. l ++ first ∷ []) both_passed
+    ∙ ap (λ x. map (past x) (map (past second) later ++ second ∷ []) ++ x ∷ []) by_first
+    ∙ ap (λ y. map (past r) (map (past y) later ++ y ∷ []) ++ r ∷ []) as_s
+    ∙ two
+    ∙ ap (λ d. reverse (picks_from words n (k - d) d)) count
+
+-- the first pick before all the others, which are passed over with a gap past all of them too
+pub late_first : (words : List ℕ) (n k done gap : ℕ) (later lent passed : List ℕ) (first : ℕ) → IsLate words n k done later → done + 1 ≡ k → k ≤ n → k ≤ length words → n ≤ gap → lent ≡ later → first ≡ get_or words 0 0 % n → passed ≡ map (λ p. past first (past gap p)) lent
+    → IsLate words n k k (refill (length later) later passed ++ first ∷ [])
+late_first words n k done gap later lent passed first is late few within far same by_first over =
+    let below = late_below words n k done (gap + 1) later is (omega arith) few within (omega arith) in
+    let none : map (past gap) later ≡ later = past_all gap later (recursion_from_All (λ x. x < gap) later (λ i d h. omega (arith, below i d h))) in
+    let all : n ≡ n - 0 = omega arith in
+    let r = get_or words 0 0 % (n - 0) in
+    let as_r : first ≡ r = by_first ∙ ap (λ m. get_or words 0 0 % m) all in
+    let passed_first : refill (length later) later passed ≡ map (past first) later =
+    refilled later lent passed (λ p. past first (past gap p)) same over ∙ sym (map_twice (past first) (past gap) later) ∙ ap (map (past first)) none in
+    ap (λ l. l ++ first ∷ []) passed_first
+    ∙ ap (λ x. map (past x) later ++ x ∷ []) as_r
+    ∙ late_more words n k done 0 later is (omega arith) few within
+    ∙ ap (λ d. reverse (picks_from words n (k - d) d)) late
 
 -- all are late in the end
 pub late_all : (words : List ℕ) (n k : ℕ) (later : List ℕ) → IsLate words n k k later → reverse later ≡ picks words n k
@@ -307,9 +354,8 @@ add_test true x = refl
 add_test false x = omega arith
 
 -- one position more is passed over, where it stands
-pub passed_more : (gap : ℕ) (old now : List ℕ) (i passed : ℕ) → i < length old → now ≡ map (past gap) (take i old) ++ drop i old → passed ≡ past gap (get_or now i 0) → set now i passed ≡ map (past gap) (take (i + 1) old) ++ drop (i + 1) old
-passed_more gap old now i passed within so_far is =
-    let f = past gap in
+pub passed_more : (f : ℕ → ℕ) (old now : List ℕ) (i passed : ℕ) → i < length old → now ≡ map f (take i old) ++ drop i old → passed ≡ f (get_or now i 0) → set now i passed ≡ map f (take (i + 1) old) ++ drop (i + 1) old
+passed_more f old now i passed within so_far is =
     let front = map f (take i old) in
     let x = get_or old i 0 in
     let rest = drop (i + 1) old in

@@ -6,4 +6,4 @@ mod picked;
 #[cfg(test)]
 mod tests;
 
-pub use picked::{PICKS, Picks, pick};
+pub use picked::{PICKS, Picks, passing, pick};

@@ -9,7 +9,7 @@ ghost use Rattle.swarm.specs.Peers.{place_past, without};
 
 use crate::order::Order;
 use ot_base::Peers;
-use pick::pick;
+use pick::{passing, pick};
 
 /// Adds to an empty list the items that the words choose among those that don't stand at a place.
 pub fn choose_others(
@@ -52,7 +52,7 @@ fn passing_over(place: Option<u32>, position: u32) -> u32
     ensures { result ≡ place_past place position }
 {
     match place {
-        Some(gap) if gap <= position => position + 1,
-        Some(_) | None => position,
+        Some(gap) => passing(gap, position),
+        None => position,
     }
 }
