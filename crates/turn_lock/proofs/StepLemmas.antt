@@ -197,15 +197,15 @@ module _ {T : Type 0} (settings_of : T → List ℕ) (stands : T → List Entry 
 
   -- a turn whose ticket is next is served
   watches_waiting : (id slots ticket : ℕ) (v : Know) (c : List (ℕ × Option T)) →
-      Allows Kept slots id (at_stage v (Waits ticket), c) 1 (λ n. either (eqb n ticket) ticket n)
-      (watched settings_of stands (step slots 1 ticket ticket none) (at_stage v (Waits ticket), c))
+      Allows Kept slots id (at_stage v (Waits ticket), c) 1 (λ n. n)
+      (watched settings_of stands (step slots 1 0 0 none) (at_stage v (Waits ticket), c))
   watches_waiting id slots ticket v c s k wide at _ =
       let waiting = at_stage v (Waits ticket) in
       let n : ℕ = slice_index s.words 1 in
       let next_is : n ≡ length k.log = ap (λ ws. slice_index ws 1) k.words_are in
       let fits = k.each id waiting at refl in
       by_number n ticket
-      (λ b. (w : Know) × (a : Act (Option T)) × Valid s.homes c a × Kept (stepped s 1 (either b ticket n) id c w a)
+      (λ b. (w : Know) × (a : Act (Option T)) × Valid s.homes c a × Kept (stepped s 1 n id c w a)
       × MatchBool b (IsServed settings_of stands (waiting, c) (w, carried_after c a)) (◌≡◌ {A = M} (w, carried_after c a) (waiting, c)))
       (λ hit.
       let here_is : length k.log ≡ ticket = sym next_is ∙ hit in
@@ -217,8 +217,8 @@ module _ {T : Type 0} (settings_of : T → List ℕ) (stands : T → List Entry 
         takes 0 (Some home.value),
         ap (λ hs. get_elem? hs 0) k.homes_are ∙ ap some home.home_is,
         moved s k id waiting serving at record { live_before = refl; live_after = refl; caller_is = refl; free_is = refl; others_are = refl }
-            (set s.words 1 ticket) (set s.homes 0 none) k.log k.next none
-            (ap (λ ws. set ws 1 ticket) k.words_are ∙ ap (λ (t : ℕ). k.next ∷ t ∷ []) (sym here_is))
+            (set s.words 1 n) (set s.homes 0 none) k.log k.next none
+            (ap (λ ws. set ws 1 n) k.words_are ∙ ap (λ (t : ℕ). k.next ∷ t ∷ []) next_is)
             (ap (λ hs. set hs 0 none) k.homes_are) k.few (omega arith)
             (λ j u ne e live. k.each j u e live)
             record { settings_are = fits.settings_are; callers_are = fits.callers_are; behind = goes_nowhere (v.caller ∷ v.joined) k.log k.log refl; below = fits.below; stage = (refl, omega (arith, fits.stage.1)) }
@@ -244,9 +244,9 @@ module _ {T : Type 0} (settings_of : T → List ℕ) (stands : T → List Entry 
       (λ miss. (waiting, keeps, tt, stays s 1 id waiting c at k, refl))
 
   pub watches : (id slots ticket : ℕ) (me : M) → me.0.stage ≡ Waits ticket →
-      Allows Kept slots id me 1 (λ n. either (eqb n ticket) ticket n) (watched settings_of stands (step slots 1 ticket ticket none) me)
+      Allows Kept slots id me 1 (λ n. n) (watched settings_of stands (step slots 1 0 0 none) me)
   watches id slots ticket me waits =
-      at_known_stage (λ (m : M). Allows Kept slots id m 1 (λ n. either (eqb n ticket) ticket n) (watched settings_of stands (step slots 1 ticket ticket none) m)) (Waits ticket) me waits
+      at_known_stage (λ (m : M). Allows Kept slots id m 1 (λ n. n) (watched settings_of stands (step slots 1 0 0 none) m)) (Waits ticket) me waits
       (watches_waiting id slots ticket me.0 me.1)
 
   -- the turn that is served adds its entry

@@ -6,6 +6,7 @@ use Rattle.tracker_model.specs.declared.answer.Answer.TheVariants.{NoMemory}
 use Rattle.tracker_model.specs.declared.call.Call.TheVariants.{Drain}
 use Rattle.tracker_model.specs.declared.entry.Entry.{Entry}
 use Rattle.turn_lock.specs.declared.know.Know.{Know}
+use Rattle.turn_lock.specs.declared.know.Stage.{Stage}
 use Rattle.turn_lock.specs.declared.know.Stage.TheVariants.{Free, Waits, Serves, Joins, Spent}
 use Rattle.turn_lock.specs.Histories.{GoesOn, AllBelow}
 
@@ -16,6 +17,11 @@ no_entry = record { caller = 0; minute = record { 0 = 0 }; call = Drain; answer 
 -- what caller 0 has seen is of numbers that aren't free
 abbrev pub HasKnown : Know → Type 0
 HasKnown v = v.caller ≡ 0 → AllBelow v.free v.seen
+
+-- the ticket that a turn waits with
+abbrev pub ticket_of : Stage → ℕ
+ticket_of (Waits ticket) = ticket
+ticket_of _ = 0
 
 -- a ticket was drawn where the word was still as expected, and else nothing changed
 abbrev pub drawn : {S : Type 0} → Step S → Me S Know → ℕ → Me S Know → Type 0
@@ -36,7 +42,8 @@ module _ {T : Type 0} (settings_of : T → List ℕ) (stands : T → List Entry 
 
   -- the turn is served where the word is its ticket, and else nothing changed
   abbrev pub watched : Step (Option T) → Me (Option T) Know → ℕ → Me (Option T) Know → Type 0
-  watched step old found new = MatchBool (found == step.first) (IsServed old new) (new ≡ old)
+  watched step old found new =
+      MatchBool (found == ticket_of old.0.stage) (IsServed old new) (new ≡ old)
 
 -- the turn is over: its entry was added, at the place that the word said, and the slot given back
 abbrev pub advanced : {S : Type 0} → Entry → Step S → Me S Know → ℕ → Me S Know → Type 0

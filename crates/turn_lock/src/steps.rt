@@ -40,7 +40,8 @@ pub fn draw<T: Stands, R: Wait>(rt: &R, words: &Words<T>, place: &mut Place<T>) 
     unreachable!()
 }
 
-/// Looks whether the ticket is served, and if it is takes the slot.
+/// Looks whether the ticket is served, and if it is takes the slot. It only reads the word, whose
+/// cache line stays with the turn that is served.
 pub fn watch<T: Stands>(words: &Words<T>, place: &mut Place<T>, ticket: u64) -> bool
     requires table { (place.old.table_id ≡ words.now.table_id) × IsSized words.now.table_id }
     requires waits { place.old.me.0.stage ≡ Waits ticket }
@@ -48,11 +49,10 @@ pub fn watch<T: Stands>(words: &Words<T>, place: &mut Place<T>, ticket: u64) -> 
     ensures served { MatchBool result (IsServed T.settings T.stands place.old.me place.new.me)
         (place.new.me ≡ place.old.me) }
 {
-    words.compare_exchange::<Watch>(place, SERVING, ticket, ticket) == ticket
+    words.load::<Watch>(place, SERVING) == ticket
 }
 
-/// Waits until the ticket is served, and takes the slot at that step. It looks at the word before
-/// it tries the step, which would take the word's cache line from the turn that is served.
+/// Waits until the ticket is served, and takes the slot at that step.
 pub fn wait<T: Stands, R: Wait>(rt: &R, words: &Words<T>, place: &mut Place<T>, ticket: u64)
     requires table { (place.old.table_id ≡ words.now.table_id) × IsSized words.now.table_id }
     requires waits { place.old.me.0.stage ≡ Waits ticket }
@@ -61,7 +61,7 @@ pub fn wait<T: Stands, R: Wait>(rt: &R, words: &Words<T>, place: &mut Place<T>, 
 {
     let backoff = Backoff::new();
     for _ in rt.forever() {
-        if words.peek(SERVING) == ticket && watch(words, place, ticket) {
+        if watch(words, place, ticket) {
             return;
         }
         backoff.snooze();
