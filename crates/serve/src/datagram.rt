@@ -10,6 +10,7 @@ ghost use Rattle.serve.specs.Datagram.{Carries, FaultsAreCounted, IdlesAreCounte
 
 use crate::scratch::Scratch;
 use access_list::AccessList;
+use ot_base::in_place::HASHES;
 use ot_base::{Family, Minute, Secret};
 use ot_io::{Clock, Recv, Sent, Wire};
 use request_handler::{Outcome, carry_out};
@@ -17,7 +18,7 @@ use shards::laws::seat_follows;
 use shards::{Pass, Seat, Shards};
 use std::sync::Wait;
 use tracker_core::{UdpPlan, plan_udp};
-use udp_wire::{Quiet, REPLY_ROOM};
+use udp_wire::{Quiet, REPLY_ROOM, hash_ahead};
 
 /// What was done for a datagram.
 #[derive(Clone, Copy, Debug, PartialEq, Eq)]
@@ -71,6 +72,7 @@ pub fn serve_datagram<R: Wait, W: Wire, C: Clock>(
     if from.addr.family() == Family::Six {
         return Served::Unbuilt;
     }
+    approach(shards, &scratch.datagram[..len]);
     let minute = Minute::of_seconds(clock.now());
     let plan = plan_udp(&scratch.datagram[..len], from, minute, secret, access);
     scratch.words.draw_for_datagram(&plan);
@@ -82,6 +84,17 @@ pub fn serve_datagram<R: Wait, W: Wire, C: Clock>(
             Sent::Done => Served::Sent,
             Sent::Failed => Served::SendFault,
         },
+    }
+}
+
+/// Looks at the locks of the torrents that a datagram names, whatever it is worth. Their memory
+/// comes while the datagram is judged, and of a scrape all of it at once.
+fn approach(shards: &Shards, datagram: &[u8]) {
+    for i in 0..HASHES {
+        match hash_ahead(datagram, i) {
+            Some(hash) => shards.approach(&hash),
+            None => return,
+        }
     }
 }
 

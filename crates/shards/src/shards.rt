@@ -5,9 +5,10 @@ ghost use Rattle.shards.specs.Shape.{IsLockFor, first_pass};
 ghost use Rattle.tracker_model.specs.Settings.{AreLimits};
 ghost use Rattle.turn_lock.specs.Shape.{first_turn};
 
+use crate::call::place_in;
 use crate::pass::Pass;
 use bucket::Bucket;
-use ot_base::Limits;
+use ot_base::{InfoHash, Limits};
 use std::alloc::{AllocError, Global};
 use std::marker::Model;
 use turn_lock::{Turn, TurnLock};
@@ -82,6 +83,13 @@ impl Shards {
         };
         let pass = Pass::first(&shards, turns);
         Ok((shards, pass))
+    }
+
+    /// Looks at the lock of a torrent's bucket, and tells nothing: a call for the torrent that is
+    /// made soon needn't wait then for the lock's memory.
+    pub fn approach(&self, hash: &InfoHash) {
+        let bucket = place_in(*hash, self.bits);
+        self.locks[bucket as usize].approach();
     }
 
     /// How many buckets there are, at most 1,024.

@@ -6,7 +6,7 @@ ghost use Rattle.turn_lock.specs.Histories.{GoesOn};
 ghost use Rattle.turn_lock.specs.Shape.{IsSpare, KnowsCallers, entry_of, first_turn, new_turn};
 
 use crate::answers::AsAnswer;
-use crate::board::{Board, Key, SLOT};
+use crate::board::{Board, Key, SERVING, SLOT};
 use crate::steps::{advance, cut, draw, finish, merge, wait};
 use crate::turn::Turn;
 use atomic_table::Table;
@@ -65,6 +65,12 @@ impl<T: Stands> TurnLock<T> {
             Ok((board, place)) => Ok((TurnLock { board }, Turn { place })),
             Err(_) => Err(AllocError),
         }
+    }
+
+    /// Looks at the words of the lock, and tells nothing. So they are on their way from memory while
+    /// a caller that will take its turn here has other work to do, and it needn't wait for them.
+    pub fn approach(&self) {
+        self.board.shared.peek(SERVING);
     }
 
     /// Waits for the turn, and takes the value out. It stands for all that the turn has now seen.

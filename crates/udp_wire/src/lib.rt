@@ -12,4 +12,4 @@ mod tests;
 
 pub use reading::{Reply, read_reply};
 pub use reply::{REPLY_ROOM, write_announce, write_connect, write_error, write_scrape};
-pub use request::{Quiet, Request, UdpAnnounce, announce_in, read_request};
+pub use request::{Quiet, Request, UdpAnnounce, announce_in, hash_ahead, read_request};

@@ -1,8 +1,8 @@
 //! What a client asks. Places and lengths count bytes.
 
-ghost use Rattle.std.specs.Prelude.{◌≡◌, ◌+◌, ◌*◌, ◌≤◌, IfSome, length};
+ghost use Rattle.std.specs.Prelude.{◌≡◌, ◌+◌, ◌*◌, ◌≤◌, IfSome, length, max};
 ghost use Rattle.udp_wire.specs.declared.request.Request.TheVariants.{Announce};
-ghost use Rattle.udp_wire.specs.Packets.{event_of, hashes_of, connect_of, fields_of, announce_of, scrape_of, request_of};
+ghost use Rattle.udp_wire.specs.Packets.{event_of, hash_at, hashes_of, connect_of, fields_of, announce_of, scrape_of, request_of};
 
 use crate::action::{ANNOUNCE, CONNECT, SCRAPE};
 use crate::field::{i32_at, info_hash_at, u16_at, u32_at, u64_at};
@@ -89,6 +89,32 @@ pub enum Request {
     },
     /// No request, to which nobody replies.
     Silent(Quiet),
+}
+
+/// The i-th hash, from 0 on, that a datagram of any bytes names, if it is an announce or a scrape:
+/// for those who look ahead to what a request will need, before it is read and judged.
+pub fn hash_ahead(bytes: &[u8], i: usize) -> Option<InfoHash>
+    ensures { IfSome result (λ hash. hash ≡ hash_at (HEAD + HASH * i) bytes.now) }
+{
+    if i >= hashes_ahead(bytes) {
+        return None;
+    }
+    Some(info_hash_at(bytes, HEAD + HASH * i))
+}
+
+/// How many hashes a datagram names, if it is an announce or a scrape.
+fn hashes_ahead(bytes: &[u8]) -> usize
+    ensures { HEAD + HASH * result ≤ max HEAD (length bytes.now) }
+{
+    if bytes.len() < HEAD {
+        return 0;
+    }
+    let whole = (bytes.len() - HEAD) / HASH;
+    match u32_at(bytes, ACTION) {
+        ANNOUNCE => whole.min(1),
+        SCRAPE => whole.min(HASHES),
+        _ => 0,
+    }
 }
 
 /// Reads a datagram of any bytes. Bytes after the named fields are ignored.
