@@ -15,10 +15,10 @@ ghost use Rattle.request_handler.specs.Datagram.{CarriesOut, HasRoom, IsReportAn
 ghost use Rattle.request_handler.specs.Datagram.{IsReportOutcome};
 ghost use Rattle.request_handler.specs.Making.{Gives};
 
-use ot_base::{CountList, Hashes, InfoHash, Minute, Peers};
+use ot_base::{CountList, Minute, Peers};
 use tracker_core::{UdpPlan, finish_udp};
 use tracker_model::{Call, ReportAnswer, Tracker};
-use udp_wire::{Quiet, REPLY_ROOM, write_connect, write_error, write_scrape};
+use udp_wire::{Quiet, REPLY_ROOM, ScrapeHashes, write_connect, write_error, write_scrape};
 
 /// What came of a plan.
 #[derive(Clone, Copy, Debug, PartialEq, Eq)]
@@ -36,7 +36,7 @@ pub enum Outcome {
 pub fn carry_out<T: Tracker>(
     tracker: &mut T,
     minute: Minute,
-    plan: &UdpPlan,
+    plan: &UdpPlan<'_>,
     words: &[u32; 200],
     reply: &mut [u8; REPLY_ROOM],
 ) -> Outcome
@@ -121,7 +121,7 @@ fn scrape_all<T: Tracker>(
     tracker: &mut T,
     minute: Minute,
     transaction: u32,
-    hashes: &Hashes,
+    hashes: &ScrapeHashes<'_>,
     reply: &mut [u8; REPLY_ROOM],
 ) -> usize
     requires some { 1 ≤ length hashes.now }
@@ -139,7 +139,7 @@ fn scrape_all<T: Tracker>(
 }
 
 /// The counts of the torrents, in order.
-fn counts_of<T: Tracker>(tracker: &mut T, minute: Minute, hashes: &Hashes) -> CountList
+fn counts_of<T: Tracker>(tracker: &mut T, minute: Minute, hashes: &ScrapeHashes<'_>) -> CountList
     ensures settings { T.settings tracker.new ≡ T.settings tracker.old }
     ensures bits { T.bits tracker.new ≡ T.bits tracker.old }
     ensures many { length result ≡ length hashes.now }
@@ -148,8 +148,8 @@ fn counts_of<T: Tracker>(tracker: &mut T, minute: Minute, hashes: &Hashes) -> Co
         tracker.new result }
 {
     let mut counts = CountList::new();
-    for hash in hashes.as_slice() {
-        let (found, _known) = tracker.scrape(minute, hash);
+    for i in 0..hashes.len() {
+        let (found, _known) = tracker.scrape(minute, &hashes.get(i));
         counts.push(found);
     }
     counts

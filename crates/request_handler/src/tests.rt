@@ -7,12 +7,12 @@ ghost use Rattle.tracker_core.specs.UdpPlan.{IsComplete, calls_of};
 ghost use Rattle.tracker_model.specs.Calls.{IsWellFormed};
 
 use crate::{Outcome, bucket_count, carry_out, clean_all, full_part, serve};
-use ot_base::{Addr, Counts, Endpoint, Hashes, InfoHash, Minute, Peers, Refusal, Row, Rows};
+use ot_base::{Addr, Counts, Endpoint, InfoHash, Minute, Peers, Refusal, Row, Rows};
 use std::alloc::{AllocError, Global};
 use std::test::Fail;
 use tracker_core::{UdpPlan, plan_connection};
 use tracker_model::{Call, ReportAnswer, Tracker};
-use udp_wire::{Quiet, REPLY_ROOM};
+use udp_wire::{Quiet, REPLY_ROOM, ScrapeHashes};
 
 /// A tracker of two buckets with a torrent in each, whose answers tell the number of the call, from
 /// 0, as downloads, and the minute as leechers. It knows any torrent but that of zeros, and nobody
@@ -98,7 +98,11 @@ const WORDS: [u32; 200] = [0; 200];
 const MINUTE: Minute = Minute(9);
 
 /// The reply to a datagram of this plan, with no bytes where there is none.
-fn reply_to(alloc: Global, tracker: &mut Numbered, plan: &UdpPlan) -> Result<Vec<u8>, AllocError>
+fn reply_to(
+    alloc: Global,
+    tracker: &mut Numbered,
+    plan: &UdpPlan<'_>,
+) -> Result<Vec<u8>, AllocError>
     requires formed { AllByRecursion IsWellFormed (calls_of plan.now) }
     requires complete { IsComplete plan.now }
 {
@@ -146,13 +150,11 @@ fn datagrams_are_answered(rt: HostRuntime) -> Result<(), Fail> {
         reply.as_slice(),
         b"\0\0\0\x01\x12\x34\x56\x78\0\0\x07\x08\0\0\0\x09\0\0\0\0".as_slice()
     );
-    let mut hashes = Hashes::new();
-    hashes.push(InfoHash([0xff; 20]));
-    hashes.push(InfoHash([0x11; 20]));
-    hashes.push(InfoHash([0xff; 20]));
+    let mut datagram = [0xff; 76];
+    datagram[36..56].fill(0x11);
     let scrape = UdpPlan::Scrape {
         transaction: 0x1234_5678,
-        hashes,
+        hashes: ScrapeHashes::within(&datagram),
     };
     let reply = reply_to(rt.alloc(), &mut tracker, &scrape)?;
     assert_eq!(rt;

@@ -38,7 +38,7 @@ impl Words {
 
     /// Draws the words for a datagram's plan, where it is an announce. No other call looks at its
     /// words, so the last ones stay.
-    pub fn draw_for_datagram(&mut self, plan: &UdpPlan) {
+    pub fn draw_for_datagram(&mut self, plan: &UdpPlan<'_>) {
         if let UdpPlan::Announce {
             call: Call::Announce { want, .. },
             ..

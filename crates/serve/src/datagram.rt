@@ -104,7 +104,7 @@ fn carry<R: Wait>(
     shards: &Shards,
     pass: &mut Pass,
     minute: Minute,
-    plan: &UdpPlan,
+    plan: &UdpPlan<'_>,
     words: &[u32; 200],
     reply: &mut [u8; REPLY_ROOM],
 ) -> Outcome

@@ -3,7 +3,8 @@ use Rattle.std.specs.List.{AllByRecursion}
 use Rattle.std.proofs.Common.{map, ◌≡◌, ℕ, zero, suc, ◌+◌, ◌-◌, ◌*◌, ◌/◌, ◌≤◌, Bool, true, false, List, [], ◌∷◌, length, min, nat_lt, refl, sym, subst, arith, length-append}
 use Rattle.std.specs.Prelude.{◌==◌, if◌then◌else◌}
 use Rattle.std.proofs.lemmas.Bool.{ltb-false}
-use Rattle.udp_wire.specs.Packets.{hash_at, hashes_of, action_of, connection_of, transaction_of, fields_of, connect_of, announce_of, scrape_of, request_of}
+use Rattle.udp_wire.proofs.HashLemmas.{length-hashes_of}
+use Rattle.udp_wire.specs.Packets.{action_of, connection_of, transaction_of, fields_of, connect_of, announce_of, scrape_of, request_of}
 use Rattle.ot_base.specs.declared.hash.InfoHash.{InfoHash}
 use Rattle.tracker_model.specs.Calls.{IsWellFormed}
 use Rattle.tracker_model.specs.declared.call.Call.TheVariants.{Scrape}
@@ -11,11 +12,6 @@ use Rattle.tracker_core.specs.UdpPlan.{Names}
 use Rattle.udp_wire.specs.declared.request.Quiet.TheVariants as quiet
 use Rattle.udp_wire.specs.declared.request.Request.{Request}
 use Rattle.udp_wire.specs.declared.request.Request.TheVariants.{Connect, Announce, Silent}
-
-length-hashes_of : (n : ℕ) (bytes : List ℕ) → length (hashes_of n bytes) ≡ n
-length-hashes_of zero bytes = refl
-length-hashes_of (suc n) bytes =
-    omega (arith, length-hashes_of n bytes, length-append (hashes_of n bytes) (hash_at (16 + 20 * n) bytes ∷ []))
 
 chosen : (b : Bool) (x y : Request) → (b ≡ true → Names x) → (b ≡ false → Names y) → Names (if b then x else y)
 chosen true x y names_x names_y = names_x refl

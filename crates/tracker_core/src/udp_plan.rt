@@ -13,23 +13,35 @@ ghost use Rattle.tracker_core.specs.UdpPlan.{udp_plan, wanted_peers};
 use crate::report::{peers_wanted, report_call};
 use access_list::{AccessList, admits_hash};
 use conn_id::{check, mint};
-use ot_base::{Endpoint, Hashes, Minute, Refusal, Secret};
+use ot_base::{Endpoint, Minute, Refusal, Secret};
 use tracker_model::Call;
-use udp_wire::{Quiet, Request, UdpAnnounce, announce_in, read_request};
+use udp_wire::{Quiet, Request, ScrapeHashes, UdpAnnounce, read_request};
 
 /// What is to be done for a datagram.
 #[derive(Debug, Drop)]
-pub enum UdpPlan {
+pub enum UdpPlan<'a> {
     /// It is no request, and is left without a reply.
     Silent(Quiet),
     /// The client is told its connection id.
-    Connected { transaction: u32, connection: u64 },
+    Connected {
+        transaction: u32,
+        connection: u64,
+    },
     /// The client is told why it is refused.
-    Refused { transaction: u32, why: Refusal },
+    Refused {
+        transaction: u32,
+        why: Refusal,
+    },
     /// The call is made, an announce or a stop, and the client is told its answer.
-    Announce { transaction: u32, call: Call },
+    Announce {
+        transaction: u32,
+        call: Call,
+    },
     /// Each of the torrents is scraped, in order, and the client is told the counts.
-    Scrape { transaction: u32, hashes: Hashes },
+    Scrape {
+        transaction: u32,
+        hashes: ScrapeHashes<'a>,
+    },
 }
 
 /// The plan for a datagram of any bytes that came from an endpoint in a minute. It takes no memory.
@@ -37,35 +49,13 @@ pub enum UdpPlan {
 /// What is wrong is judged in this order: no request at all, the action, the connection id; and of
 /// an announce or a stop the port, then whether the access list admits the torrent, if there is a
 /// list.
-pub fn plan_udp(
-    bytes: &[u8],
+pub fn plan_udp<'a>(
+    bytes: &'a [u8],
     from: Endpoint,
     minute: Minute,
     secret: &Secret,
     access: Option<&AccessList>,
-) -> UdpPlan
-    requires { family_of from.addr ≡ Four }
-    ensures planned { result ≡
-        udp_plan secret.now (option_copied access.entry) from minute (request_of bytes.now) }
-    ensures formed { AllByRecursion IsWellFormed (calls_of result) }
-    ensures complete { IsComplete result }
-{
-    match announce_in(bytes) {
-        Some(announce) => plan_announce(&announce, from, minute, secret, access),
-        None => plan_request(bytes, from, minute, secret, access),
-    }
-}
-
-/// The same, by the whole request. It stays a function of its own, so that an announce doesn't pay
-/// for the room that a request has for the hashes of a scrape.
-#[inline(never)]
-fn plan_request(
-    bytes: &[u8],
-    from: Endpoint,
-    minute: Minute,
-    secret: &Secret,
-    access: Option<&AccessList>,
-) -> UdpPlan
+) -> UdpPlan<'a>
     requires { family_of from.addr ≡ Four }
     ensures planned { result ≡
         udp_plan secret.now (option_copied access.entry) from minute (request_of bytes.now) }
@@ -106,13 +96,13 @@ fn plan_request(
     }
 }
 
-fn plan_announce(
+fn plan_announce<'a>(
     announce: &UdpAnnounce,
     from: Endpoint,
     minute: Minute,
     secret: &Secret,
     access: Option<&AccessList>,
-) -> UdpPlan
+) -> UdpPlan<'a>
     requires { family_of from.addr ≡ Four }
     ensures planned { result ≡
         announce_plan secret.now (option_copied access.entry) from minute announce.now }

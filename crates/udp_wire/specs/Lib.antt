@@ -1,3 +1,4 @@
+pub mod Hashes
 pub mod Packets
 pub mod Places
 pub mod Replies

@@ -1,6 +1,6 @@
 -- The packets of BEP 15, field by field. Places count bytes from 0, and numbers are in network
 -- order.
-use Rattle.std.specs.Prelude.{ℕ, zero, suc, List, [], ◌∷◌, ◌++◌, ◌+◌, ◌-◌, ◌*◌, ◌/◌, ◌≡◌, ◌≤◌, ◌==◌, ◌⊎◌, All, min, length, take, drop, nat_lt, if◌then◌else◌}
+use Rattle.std.specs.Prelude.{ℕ, List, ◌++◌, ◌-◌, ◌/◌, ◌≡◌, ◌≤◌, ◌==◌, ◌⊎◌, All, min, length, nat_lt, if◌then◌else◌}
 use Rattle.std.specs.Int.{w16, w32, w64, cast_signed, to_be_bytes}
 use Rattle.std.specs.List.{flat_map}
 use Rattle.ot_base.specs.Address.{family_of}
@@ -9,20 +9,16 @@ use Rattle.ot_base.specs.declared.address.Addr.{Addr}
 use Rattle.ot_base.specs.declared.address.Addr.TheVariants.{V4, V6}
 use Rattle.ot_base.specs.declared.address.Endpoint.{Endpoint}
 use Rattle.ot_base.specs.declared.address.Family.TheVariants.{Four, Six}
-use Rattle.ot_base.specs.declared.hash.InfoHash.{InfoHash}
 use Rattle.ot_base.specs.declared.peer.Counts.{Counts}
 use Rattle.ot_base.specs.declared.peer.Event.{Event}
 use Rattle.ot_base.specs.declared.peer.Event.TheVariants as event
 use Rattle.ot_base.specs.declared.refusal.Refusal.{Refusal}
+use Rattle.udp_wire.specs.Hashes.{hash_at, hashes_of}
 use Rattle.udp_wire.specs.Places.{number_at}
 use Rattle.udp_wire.specs.declared.request.Quiet.TheVariants as quiet
 use Rattle.udp_wire.specs.declared.request.UdpAnnounce.{UdpAnnounce}
 use Rattle.udp_wire.specs.declared.request.Request.{Request}
 use Rattle.udp_wire.specs.declared.request.Request.TheVariants.{Connect, Announce, Scrape, Unknown, Silent}
-
--- the info hash that stands at a place
-abbrev pub hash_at : ℕ → List ℕ → InfoHash
-hash_at place bytes = record { 0 = take 20 (drop place bytes) }
 
 -- the event that a number means
 abbrev pub event_of : ℕ → Event
@@ -31,11 +27,6 @@ event_of n =
     else if n == 2 then event.Started
     else if n == 3 then event.Stopped
     else event.Nothing
-
--- so many hashes, one after the other from byte 16 on
-abbrev pub hashes_of : ℕ → List ℕ → List InfoHash
-hashes_of zero bytes = []
-hashes_of (suc n) bytes = hashes_of n bytes ++ hash_at (16 + 20 * n) bytes ∷ []
 
 -- the fields that every request begins with: connection id or protocol id, action, transaction id
 abbrev pub connection_of : List ℕ → ℕ

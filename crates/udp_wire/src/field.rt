@@ -3,7 +3,7 @@
 
 ghost use Rattle.std.specs.Prelude.{◌≡◌, ◌+◌, ◌≤◌, ◌++◌, length, take};
 ghost use Rattle.std.specs.Int.{w16, w32, w64, cast_signed, to_be_bytes};
-ghost use Rattle.udp_wire.specs.Packets.{hash_at};
+ghost use Rattle.udp_wire.specs.Hashes.{hash_at};
 ghost use Rattle.udp_wire.specs.Places.{number_at};
 
 use ot_base::InfoHash;

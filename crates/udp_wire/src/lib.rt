@@ -3,6 +3,7 @@
 
 mod action;
 mod field;
+mod hashes;
 pub mod laws;
 pub mod reading;
 pub mod reply;
@@ -10,6 +11,7 @@ pub mod request;
 #[cfg(test)]
 mod tests;
 
+pub use hashes::{ScrapeHashes, hash_ahead};
 pub use reading::{Reply, read_reply};
 pub use reply::{REPLY_ROOM, write_announce, write_connect, write_error, write_scrape};
-pub use request::{Quiet, Request, UdpAnnounce, announce_in, hash_ahead, read_request};
+pub use request::{Quiet, Request, UdpAnnounce, read_request};

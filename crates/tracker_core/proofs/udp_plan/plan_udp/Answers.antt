@@ -2,7 +2,7 @@
 use Rattle.std.proofs.Common.{◌∙◌, subst, sym}
 use Rattle.tracker_core.specs.UdpPlan.{Names}
 use Rattle.tracker_core.proofs.Scrapes.{names_request, scrapes-well-formed}
-use Rattle.tracker_core.proofs.udp_plan.plan_request.Goals as goal
+use Rattle.tracker_core.proofs.udp_plan.plan_udp.Goals as goal
 
 pub returns-then-check-clause-formed : goal.returns-then-check-clause-formed
 returns-then-check-clause-formed c = scrapes-well-formed _
