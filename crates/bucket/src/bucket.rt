@@ -31,7 +31,8 @@ use tracker_model::{Answer, Call, ReportAnswer, Stands};
 /// One bucket of a tracker: the torrents of a part of all hashes, with their peers.
 #[derive(Drop)]
 pub struct Bucket {
-    torrents: Torrents,
+    /// Boxed, since each call moves the bucket out of its lock and back: so it moves a few bytes.
+    torrents: Box<Torrents>,
     outbox: Outbox,
 }
 
@@ -41,9 +42,9 @@ impl Model for Bucket {
     ghost Value = { Shape };
 
     ghost view = { λ b. record {
-      settings = record { limits = b.torrents.limits; sync = b.outbox.sync };
-      time = b.torrents.time;
-      torrents = b.torrents.torrents;
+      settings = record { limits = b.torrents.value.limits; sync = b.outbox.sync };
+      time = b.torrents.value.time;
+      torrents = b.torrents.value.torrents;
       notes = b.outbox.notes;
       dropped = b.outbox.dropped;
     } };
@@ -70,7 +71,7 @@ impl Bucket {
         ensures empty { IfOk result (λ bucket. bucket.torrents ≡ []) }
     {
         Ok(Bucket {
-            torrents: Torrents::new(alloc, limits)?,
+            torrents: Box::new(alloc, Torrents::new(alloc, limits)?)?,
             outbox: Outbox::new(alloc, sync),
         })
     }

@@ -15,6 +15,6 @@ returns-clause-stands c caller =
     let hash = c.args.hash.now in
     let who = c.args.who.now in
     let new = c.apply.new.torrents in
-    let later = later_as c.args.minute now i.outbox i.torrents c.args.self.now c.self.view_is c.at_least-now.ensures in
+    let later = later_as c.args.minute now i.outbox i.torrents.value c.args.self.now c.self.view_is c.at_least-now.ensures in
     let F : Shape → Type 0 = λ s. StandsOn caller c.args.minute (Sync hash who c.args.mark) (applied s.settings.limits c.apply.result) s (bucket_of i.outbox new) in
-    subst F c.self.view_is (apply_stands now hash who c.requires i.torrents new i.outbox caller c.args.minute later c.args.mark c.apply.result c.apply.ensures)
+    subst F c.self.view_is (apply_stands now hash who c.requires i.torrents.value new i.outbox caller c.args.minute later c.args.mark c.apply.result (rw (← c.deref_mut.ensures.value) c.apply.ensures))

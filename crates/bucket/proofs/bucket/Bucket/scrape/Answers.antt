@@ -15,6 +15,6 @@ returns-clause-stands c =
     let counts = c.scrape.result.0 in
     let known = c.scrape.result.1 in
     let new = c.scrape.new.torrents in
-    let later = later_as c.args.minute now i.outbox i.torrents c.args.self.now c.self.view_is c.at_least-now.ensures in
+    let later = later_as c.args.minute now i.outbox i.torrents.value c.args.self.now c.self.view_is c.at_least-now.ensures in
     let F : Shape → Type 0 = λ s. StandsOn c.args.caller c.args.minute (Scrape c.args.hash.now) (Stats counts known) s (bucket_of i.outbox new) in
-    subst F c.self.view_is (scrape_stands now c.args.hash.now i.torrents new c.args.caller c.args.minute later i.outbox counts known c.scrape.ensures)
+    subst F c.self.view_is (scrape_stands now c.args.hash.now i.torrents.value new c.args.caller c.args.minute later i.outbox counts known (rw (← c.deref_mut.ensures.value) c.scrape.ensures))
