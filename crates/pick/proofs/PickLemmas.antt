@@ -1,6 +1,5 @@
 -- The later positions are picked among those that the first one leaves.
-use mir.Val.{bool_byte}
-use Rattle.std.proofs.Common.{◌≡◌, ℕ, ◌+◌, ◌-◌, ◌%◌, ◌<◌, ◌≤◌, Bool, true, false, not, ◌||◌, cond, if◌then◌else◌, eqb, nat_eq, List, [], ◌∷◌, ◌++◌, refl, sym, ◌∙◌, ap, subst, zero, suc, inl, inr, length, map, reverse, set, take, drop, get_or, arith, add-one}
+use Rattle.std.proofs.Common.{◌≡◌, ℕ, ◌+◌, ◌-◌, ◌%◌, ◌<◌, ◌≤◌, Bool, true, false, not, ◌||◌, cond, eqb, nat_eq, List, [], ◌∷◌, ◌++◌, refl, sym, ◌∙◌, ap, subst, zero, suc, inl, inr, length, map, reverse, set, take, drop, get_or, arith, add-one}
 use Rattle.std.specs.List.{All, filter, refill, range_with_len, IsDistinct, AllByRecursion}
 use Rattle.std.proofs.lemmas.Bool.{cases_lt}
 use Rattle.std.proofs.lemmas.Bool.Decides.{nat_tests}
@@ -347,11 +346,6 @@ turned_apart words n k picked later turned empty few within =
     let none : later ≡ [] = nil_from_length later (elim (cases_lt 0 (length later)) [ inl some ↦ absurd (empty some) | inr none ↦ omega arith ]) in
     let all : picked ≡ picks words n k = sym (append-nil picked) ∙ ap (λ l. picked ++ reverse l) (sym none) ∙ turned in
     subst P (sym all) (picks_apart words n k few within)
-
--- a test as a number, added
-pub add_test : (b : Bool) (x : ℕ) → x + bool_byte b ≡ (if b then x + 1 else x)
-add_test true x = refl
-add_test false x = omega arith
 
 -- one position more is passed over, where it stands
 pub passed_more : (f : ℕ → ℕ) (old now : List ℕ) (i passed : ℕ) → i < length old → now ≡ map f (take i old) ++ drop i old → passed ≡ f (get_or now i 0) → set now i passed ≡ map f (take (i + 1) old) ++ drop (i + 1) old
