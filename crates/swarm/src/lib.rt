@@ -7,6 +7,7 @@ mod changes;
 mod choice;
 mod index;
 pub mod laws;
+mod lookup;
 mod members;
 mod order;
 mod short;

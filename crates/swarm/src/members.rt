@@ -3,6 +3,7 @@
 use crate::changes::{add_last, drop_due, one_if, remove_at, renew_at};
 use crate::choice::choose_others;
 use crate::index::Index;
+use crate::lookup::find;
 use crate::order::Order;
 use age_ring::AgeRing;
 use node_table::Steps;
@@ -142,7 +143,7 @@ impl Members {
         if self.stands_at(who, self.recent) {
             return Some(self.recent);
         }
-        let place = self.index.get(who)?;
+        let place = find(&self.order, &self.index, self.seeds, who)?;
         Some(place.at)
     }
 
@@ -174,7 +175,7 @@ impl Members {
         ensures time { self.new.time ≡ self.old.time }
         ensures steps { steps.new ≤ steps.old + 32 }
     {
-        match self.index.get(&who) {
+        match find(&self.order, &self.index, self.seeds, &who) {
             Some(place) => {
                 let stood = place.seed;
                 renew_at(&mut self.order, &mut self.index, &who, place, seed, steps);

@@ -1,5 +1,5 @@
 -- The short forms follow their endpoints.
-use Rattle.std.proofs.Common.{◌≡◌, ◌<◌, arith, sym, ◌∙◌, ap, length, map}
+use Rattle.std.proofs.Common.{◌<◌, arith, sym, ◌∙◌, ap, length, map}
 use Rattle.std.specs.List.{swap_remove}
 use Rattle.std.proofs.lemmas.List.{length-map}
 use Rattle.age_ring.specs.Ring.{items_of}
