@@ -1,5 +1,5 @@
 -- Where the torrent of a hash stands: at the place that the index tells, or nowhere.
-use Rattle.std.proofs.Common.{◌≡◌, ℕ, zero, suc, ◌<◌, Bool, true, false, cond, List, [], ◌∷◌, ◌++◌, Option, Some, None, inl, inr, refl, sym, ◌∙◌, ap, length, map, arith, get_or}
+use Rattle.std.proofs.Common.{◌≡◌, ℕ, zero, suc, ◌<◌, Bool, true, false, cond, List, [], ◌∷◌, ◌++◌, Option, Some, None, inl, inr, refl, sym, ◌∙◌, ap, subst, length, map, arith, get_or}
 use Rattle.std.specs.List.{All, Contains, find, position_or_len, slice_get}
 use Rattle.std.specs.Option.{option_map}
 use Rattle.std.proofs.lemmas.List.{length-map}
@@ -12,12 +12,16 @@ use Rattle.std.proofs.lemmas.Option.{slice_get-map, slice_get_within, slice_get-
 use Rattle.ot_base.specs.Same.{same_hash}
 use Rattle.ot_base.proofs.SameLemmas.{same_hash_decides}
 use Rattle.ot_base.specs.declared.hash.InfoHash.{InfoHash}
+use Rattle.age_ring.specs.Ring.{items_of}
 use Rattle.tracker_model.specs.Shape.{Torrent, is_known_in, torrent_of}
 use Rattle.tracker_model.proofs.Cases.{by_test}
 use Rattle.swarm.proofs.PlaceLemmas.{find_placed, find_nowhere}
 use Rattle.bucket.specs.Changes.{DropsUnknown}
 use Rattle.bucket.specs.Index.{IsIndexed}
+use Rattle.bucket.specs.Table.{torrents_by}
 use Rattle.bucket.specs.Torrents.{if_known, new_torrent, place_of}
+use Rattle.bucket.specs.declared.stored.Stored.{Stored}
+use Rattle.bucket.proofs.TableLemmas.{hashes_by}
 
 abbrev pub hashes_of : List Torrent → List InfoHash
 hashes_of torrents = map (λ torrent. torrent.hash) torrents
@@ -59,6 +63,12 @@ place_indexed torrents look h it = by_place torrents look h it (place_of h torre
         let t = get_or torrents i (new_torrent h) in
         let is_h : h ≡ t.hash = (same_hash_decides h t.hash).0 place.1 in
         at ∙ sym (it.found h i (hash_at torrents i t (slice_get-get_or torrents i (new_torrent h) place.0) ∙ ap Some (sym is_h)))
+
+-- the same of the torrents of a ring's pairs
+pub place_by : (pairs : List (InfoHash × ℕ)) (list : List Stored) (look : InfoHash → Option ℕ) (h : InfoHash) → length list ≡ length pairs → IsIndexed (items_of pairs) look → place_of h (torrents_by pairs list) ≡ look h
+place_by pairs list look h as_many it =
+    let P : List InfoHash → Type 0 = λ l. IsIndexed l look in
+    place_indexed (torrents_by pairs list) look h (subst P (sym (hashes_by pairs list as_many)) it)
 
 -- the torrent that stands at a place is found at its hash
 pub found_at : (torrents : List Torrent) (look : InfoHash → Option ℕ) (h : InfoHash) (i : ℕ) (t : Torrent) → IsIndexed (hashes_of torrents) look → slice_get torrents i ≡ Some t → h ≡ t.hash → torrent_of torrents h ≡ Some t

@@ -7,6 +7,7 @@
 pub mod bucket;
 mod calls;
 mod changes;
+mod hints;
 mod index;
 mod joining;
 pub mod laws;

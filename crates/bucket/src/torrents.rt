@@ -1,12 +1,13 @@
 //! All torrents of a bucket.
 
 use crate::changes::{add_last, drop_due};
+use crate::hints::{FEW, Hints};
 use crate::index::Index;
 use crate::joining::{JoinError, Joining};
 use crate::stored::{Stored, peers_held};
 use age_ring::AgeRing;
 use node_table::Steps;
-use ot_base::laws::hashes_in_order;
+use ot_base::laws::{equal_hashes, hashes_in_order};
 use ot_base::{Counts, Endpoint, InfoHash, Limits, Minute, Peers, Row, Rows};
 use std::alloc::{AllocError, Global};
 use std::marker::Model;
@@ -23,6 +24,8 @@ pub struct Torrents {
     limits: Limits,
     ring: AgeRing<InfoHash>,
     index: Index,
+    /// Where to look first; none for a few torrents.
+    hints: Hints,
     list: Vec<Stored>,
 }
 
@@ -42,7 +45,7 @@ impl Model for Torrents {
 }
 
 impl Torrents {
-    ghost use Rattle.std.specs.Prelude.{◌≡◌, ◌==◌, ◌+◌, ◌<◌, ◌≤◌, [], ◌∷◌, ◌++◌, IfOk, OnErr, OnOk, MatchOption, length, slice_get, sum_by, None};
+    ghost use Rattle.std.specs.Prelude.{◌≡◌, ◌==◌, ◌+◌, ◌<◌, ◌≤◌, [], ◌∷◌, ◌++◌, IfOk, IfSome, IsTrue, OnErr, OnOk, MatchOption, Some, length, slice_get, sum_by, None};
     ghost use Rattle.std.specs.List.{AllZip};
     ghost use Rattle.ot_base.specs.Address.{family_of};
     ghost use Rattle.tracker_model.specs.Settings.{AreLimits};
@@ -63,6 +66,7 @@ impl Torrents {
             limits,
             ring: AgeRing::new(alloc, TORRENT_MINUTES, 0)?,
             index: Index::new(alloc),
+            hints: Hints::new(alloc),
             list: Vec::new(alloc),
         })
     }
@@ -102,7 +106,45 @@ impl Torrents {
     pub fn place(&self, hash: &InfoHash) -> Option<u32>
         ensures { result ≡ place_of hash.now self.now.torrents }
     {
-        self.index.get(hash)
+        if self.ring.len() <= FEW {
+            return self.look_through(hash);
+        }
+        match self.hinted(hash) {
+            Some(place) => Some(place),
+            None => self.index.get(hash),
+        }
+    }
+
+    /// The place that is hinted at, where the torrent stands there.
+    fn hinted(&self, hash: &InfoHash) -> Option<u32>
+        ensures { IfSome result (λ place. place_of hash.now self.now.torrents ≡ Some place) }
+    {
+        let place = self.hints.get(hash)?;
+        if !self.stands_at(hash, place) {
+            return None;
+        }
+        Some(place)
+    }
+
+    /// Whether there is a place of that number, and the torrent of the hash stands there.
+    fn stands_at(&self, hash: &InfoHash, place: u32) -> bool
+        ensures { IsTrue result → place_of hash.now self.now.torrents ≡ Some place }
+    {
+        equal_hashes();
+        place < self.ring.len() && self.ring.item(place) == *hash
+    }
+
+    /// The same, without the index: each torrent is looked at, from the first to the last.
+    fn look_through(&self, hash: &InfoHash) -> Option<u32>
+        ensures { result ≡ place_of hash.now self.now.torrents }
+    {
+        equal_hashes();
+        for place in 0..self.ring.len() {
+            if self.ring.item(place) == *hash {
+                return Some(place);
+            }
+        }
+        None
     }
 
     /// The counts of the torrent at a place.
@@ -245,6 +287,7 @@ impl Torrents {
         let now = Minute(self.ring.time());
         self.list[place as usize].join(self.limits.peers, now, joining, steps)?;
         self.ring.renew(place, steps);
+        self.hints.set(&joining.hash, place, &self.ring);
         Ok(())
     }
 
@@ -274,6 +317,7 @@ impl Torrents {
             stored,
             steps,
         )?;
+        self.hints.set(&joining.hash, place, &self.ring);
         Ok(place)
     }
 
