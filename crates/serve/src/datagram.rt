@@ -87,8 +87,8 @@ pub fn serve_datagram<R: Wait, W: Wire, C: Clock>(
     }
 }
 
-/// Looks at the locks of the torrents that a datagram names, whatever it is worth. Their memory
-/// comes while the datagram is judged, and of a scrape all of it at once.
+/// Looks at the locks of the torrents that a scrape names, whatever it is worth: so they come from
+/// memory at once, and not one after the other.
 fn approach(shards: &Shards, datagram: &[u8]) {
     for i in 0..HASHES {
         match hash_ahead(datagram, i) {

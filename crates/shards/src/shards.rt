@@ -85,8 +85,8 @@ impl Shards {
         Ok((shards, pass))
     }
 
-    /// Looks at the lock of a torrent's bucket, and tells nothing: a call for the torrent that is
-    /// made soon needn't wait then for the lock's memory.
+    /// Looks at the lock of a torrent's bucket, and tells nothing: for who will make calls for
+    /// several torrents, so that their locks come from memory at once.
     pub fn approach(&self, hash: &InfoHash) {
         let bucket = place_in(*hash, self.bits);
         self.locks[bucket as usize].approach();

@@ -67,8 +67,8 @@ impl<T: Stands> TurnLock<T> {
         }
     }
 
-    /// Looks at the words of the lock, and tells nothing. So they are on their way from memory while
-    /// a caller that will take its turn here has other work to do, and it needn't wait for them.
+    /// Looks at the words of the lock, and tells nothing. Who will take turns at several locks looks
+    /// at all of them first: so they come from memory at once, and not one after the other.
     pub fn approach(&self) {
         self.board.shared.peek(SERVING);
     }

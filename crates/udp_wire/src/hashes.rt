@@ -3,15 +3,15 @@
 ghost use Rattle.std.specs.Prelude.{◌≡◌, ◌+◌, ◌*◌, ◌≤◌, IfSome, length, max};
 ghost use Rattle.udp_wire.specs.Hashes.{hash_at};
 
-use crate::action::{ANNOUNCE, SCRAPE};
+use crate::action::SCRAPE;
 use crate::field::{info_hash_at, u32_at};
 use crate::request::{ACTION, HASH, HEAD};
 use ot_base::InfoHash;
 use ot_base::in_place::HASHES;
 use std::marker::Model;
 
-/// The hashes of a scrape, where they stand in its datagram: they are copied one by one, as they are
-/// needed. Contracts see their list.
+/// The hashes of a scrape, where they stand in its datagram: they are copied one by one, as they
+/// are needed. Contracts see their list.
 #[derive(Debug, Drop)]
 pub struct ScrapeHashes<'a> {
     datagram: &'a [u8],
@@ -63,8 +63,8 @@ impl<'a> ScrapeHashes<'a> {
     }
 }
 
-/// The i-th hash, from 0 on, that a datagram of any bytes names, if it is an announce or a scrape:
-/// for those who look ahead to what a request will need, before it is read and judged.
+/// The i-th hash, from 0 on, that a datagram of any bytes names, if it is a scrape: for those who
+/// look ahead to what its calls will need, before it is read and judged.
 pub fn hash_ahead(bytes: &[u8], i: usize) -> Option<InfoHash>
     ensures { IfSome result (λ hash. hash ≡ hash_at (HEAD + HASH * i) bytes.now) }
 {
@@ -74,17 +74,12 @@ pub fn hash_ahead(bytes: &[u8], i: usize) -> Option<InfoHash>
     Some(info_hash_at(bytes, HEAD + HASH * i))
 }
 
-/// How many hashes a datagram names, if it is an announce or a scrape.
+/// How many hashes a datagram names, if it is a scrape.
 fn hashes_ahead(bytes: &[u8]) -> usize
     ensures { HEAD + HASH * result ≤ max HEAD (length bytes.now) }
 {
-    if bytes.len() < HEAD {
+    if bytes.len() < HEAD || u32_at(bytes, ACTION) != SCRAPE {
         return 0;
     }
-    let whole = (bytes.len() - HEAD) / HASH;
-    match u32_at(bytes, ACTION) {
-        ANNOUNCE => whole.min(1),
-        SCRAPE => whole.min(HASHES),
-        _ => 0,
-    }
+    ((bytes.len() - HEAD) / HASH).min(HASHES)
 }
