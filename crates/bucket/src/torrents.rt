@@ -1,7 +1,7 @@
 //! All torrents of a bucket.
 
 use crate::changes::{add_last, drop_due};
-use crate::hints::{FEW, Hints};
+use crate::hints::{fit, name_of};
 use crate::index::Index;
 use crate::joining::{JoinError, Joining};
 use crate::stored::{Stored, peers_held};
@@ -9,6 +9,7 @@ use age_ring::AgeRing;
 use node_table::Steps;
 use ot_base::laws::{equal_hashes, hashes_in_order};
 use ot_base::{Counts, Endpoint, InfoHash, Limits, Minute, Peers, Row, Rows};
+use place_hints::{FEW, Hints};
 use std::alloc::{AllocError, Global};
 use std::marker::Model;
 use std::sync::ledger::Ledger;
@@ -119,7 +120,7 @@ impl Torrents {
     fn hinted(&self, hash: &InfoHash) -> Option<u32>
         ensures { IfSome result (λ place. place_of hash.now self.now.torrents ≡ Some place) }
     {
-        let place = self.hints.get(hash)?;
+        let place = self.hints.get(name_of(hash))?;
         if !self.stands_at(hash, place) {
             return None;
         }
@@ -251,6 +252,7 @@ impl Torrents {
             self.ring.shrink();
             self.list.shrink_to_fit();
         }
+        fit(&mut self.hints, &self.ring);
     }
 
     /// Drops the peers that aren't live of the torrent at a place.
@@ -287,7 +289,7 @@ impl Torrents {
         let now = Minute(self.ring.time());
         self.list[place as usize].join(self.limits.peers, now, joining, steps)?;
         self.ring.renew(place, steps);
-        self.hints.set(&joining.hash, place, &self.ring);
+        self.hints.set(name_of(&joining.hash), place);
         Ok(())
     }
 
@@ -317,7 +319,8 @@ impl Torrents {
             stored,
             steps,
         )?;
-        self.hints.set(&joining.hash, place, &self.ring);
+        fit(&mut self.hints, &self.ring);
+        self.hints.set(name_of(&joining.hash), place);
         Ok(place)
     }
 
