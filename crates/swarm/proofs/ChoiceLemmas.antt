@@ -1,18 +1,21 @@
 -- What is told, by places in a list without one element.
-use Rattle.std.proofs.Common.{◌≡◌, ℕ, zero, suc, ◌+◌, ◌-◌, ◌<◌, ◌≤◌, true, false, not, cond, nat_le, List, [], ◌∷◌, Option, Some, None, refl, sym, ◌∙◌, ap, subst, length, arith, get_or, inl, inr}
+use Rattle.std.proofs.Common.{◌≡◌, ℕ, zero, suc, ◌+◌, ◌-◌, ◌<◌, ◌≤◌, true, false, not, cond, nat_le, List, [], ◌∷◌, Option, Some, None, refl, sym, ◌∙◌, ap, subst, length, map, arith, get_or, inl, inr}
 use Rattle.std.specs.List.{filter, remove, slice_get}
 use Rattle.std.specs.Option.{IfSome}
+use Rattle.std.proofs.Math.Nat.{min-zero}
 use Rattle.std.proofs.lemmas.Bool.{cases_lt}
 use Rattle.std.proofs.lemmas.Bool.Decides.{nat_tests}
 use Rattle.std.proofs.lemmas.List.{length-map}
 use Rattle.std.proofs.lemmas.List.Edits.{length-remove, get_or-remove_below, get_or-remove_above}
 use Rattle.std.proofs.lemmas.Option.{none-some, same_Some}
+use Rattle.ot_base.specs.Address.{no_endpoint}
 use Rattle.ot_base.specs.Same.{same_endpoint}
 use Rattle.ot_base.proofs.SameLemmas.{same_endpoint_decides}
 use Rattle.ot_base.specs.declared.address.Endpoint.{Endpoint}
 use Rattle.age_ring.specs.Ring.{items_of}
 use Rattle.swarm.specs.Index.{at_of, IsIndexed}
-use Rattle.swarm.specs.Peers.{without, place_past}
+use Rattle.pick.specs.Picks.{picks}
+use Rattle.swarm.specs.Peers.{choice_of, without, place_past}
 use Rattle.swarm.specs.declared.index.Place.{Place}
 use Rattle.swarm.proofs.IndexLemmas.{differ}
 use Rattle.swarm.proofs.Indexed.{by_endpoint}
@@ -75,3 +78,8 @@ others_left asker names look it = by_place asker names look it (at_of (look aske
     by_place : (asker : Endpoint) (names : List Endpoint) (look : Endpoint → Option Place) → IsIndexed names look → (o : Option ℕ) → at_of (look asker) ≡ o → without o names ≡ filter (λ e. not (same_endpoint asker e)) names
     by_place asker names look it None none = none_left asker names (λ k h. none-some k (sym none ∙ it.found asker k h))
     by_place asker names look it (Some i) at = one_left asker names i (it.there asker i at) (λ k h. same_Some k i (sym (it.found asker k h) ∙ at))
+
+-- of no peers none is told
+pub none_told : (words : List ℕ) (asker : Endpoint) (want : ℕ) → choice_of words asker want [] ≡ []
+unfolding picks
+none_told words asker want = ap (λ k. map (λ p. get_or [] p no_endpoint) (picks words 0 k)) (min-zero want)

@@ -1,5 +1,5 @@
 -- Peers that go by their age.
-use Rattle.std.proofs.Common.{◌≡◌, ℕ, ◌+◌, ◌*◌, ◌<◌, ◌≤◌, true, false, List, [], ◌∷◌, ◌++◌, Option, Some, refl, sym, ◌∙◌, ap, subst, length, arith, get_or}
+use Rattle.std.proofs.Common.{◌≡◌, ℕ, ◌+◌, ◌*◌, ◌<◌, ◌≤◌, Bool, true, false, List, [], ◌∷◌, ◌++◌, Option, Some, refl, sym, ◌∙◌, ap, subst, length, arith, get_or}
 use Rattle.std.specs.List.{All, slice_get, slice_index, swap_remove, sum_by}
 use Rattle.std.specs.List.Sorted.{IsPermutation}
 use Rattle.std.specs.Option.{option_map}
@@ -16,7 +16,7 @@ use Rattle.ot_base.specs.declared.address.Endpoint.{Endpoint}
 use Rattle.ot_base.specs.declared.peer.Held.{Held}
 use Rattle.age_ring.specs.Ring.{Ring, IsYoung, items_of, stamps_of}
 use Rattle.swarm.specs.Index.{IsIndexed}
-use Rattle.swarm.specs.Members.{AreOrderly, Expires, HeldAt, KeepsClock, held_by, peers_by}
+use Rattle.swarm.specs.Members.{AreOrderly, Expires, HeldAt, KeepsClock, flags_of, held_by, peers_by}
 use Rattle.swarm.specs.Peers.{endpoints_of, is_young, one_if, seed_one}
 use Rattle.swarm.specs.declared.index.Place.{Place}
 use Rattle.swarm.specs.declared.members.TheConstants.{PEER_AGES}
@@ -81,28 +81,30 @@ pub young_peers : (look : Endpoint → Option Place) (pairs : List (Endpoint × 
 young_peers look pairs time young = All-map (λ h. is_young time h ≡ true) (held_by look) pairs (All-weaker (IsYoung PEER_AGES time) (λ p. is_young time (held_by look p) ≡ true) (λ p h. young_pair look time p h) pairs young)
 
 -- what dropping has kept so far
-pub record IsDropping (time : ℕ) (ring0 ring : Ring Endpoint) (look0 look : Endpoint → Option Place) (seeds steps0 steps : ℕ) : Type 0 where
+pub record IsDropping (time : ℕ) (ring0 ring : Ring Endpoint) (look0 look : Endpoint → Option Place) (flags : List Bool) (seeds steps0 steps : ℕ) : Type 0 where
   pub expires : Expires time (peers_by look0 ring0.pairs) (peers_by look ring.pairs)
   pub indexed : IsIndexed (items_of ring.pairs) look
+  pub flagged : flags ≡ flags_of (peers_by look ring.pairs)
   pub clock : KeepsClock ring0 ring
   pub seeds_counted : seeds + sum_by seed_one (peers_by look ring.pairs) ≡ sum_by seed_one (peers_by look0 ring0.pairs)
   pub few : seeds + length ring.pairs ≤ length ring0.pairs
   pub steps_counted : steps + 16 * length ring.pairs ≤ steps0 + 16 * length ring0.pairs
 
-pub dropping_none : (time : ℕ) (ring : Ring Endpoint) (look : Endpoint → Option Place) (steps : ℕ) → IsIndexed (items_of ring.pairs) look → IsDropping time ring ring look look 0 steps steps
-dropping_none time ring look steps it = record {
+pub dropping_none : (time : ℕ) (ring : Ring Endpoint) (look : Endpoint → Option Place) (flags : List Bool) (steps : ℕ) → IsIndexed (items_of ring.pairs) look → flags ≡ flags_of (peers_by look ring.pairs) → IsDropping time ring ring look look flags 0 steps steps
+dropping_none time ring look flags steps it flagged = record {
   expires = expires_none time (peers_by look ring.pairs);
   indexed = it;
+  flagged = flagged;
   clock = record { time = refl; ages = refl };
   seeds_counted = omega arith;
   few = omega arith;
   steps_counted = omega arith;
 }
 
-pub dropping_one : (time : ℕ) (ring0 ring new : Ring Endpoint) (look0 look look' : Endpoint → Option Place) (seeds steps0 steps steps' at : ℕ) (peer : Held) → IsDropping time ring0 ring look0 look seeds steps0 steps
+pub dropping_one : (time : ℕ) (ring0 ring new : Ring Endpoint) (look0 look look' : Endpoint → Option Place) (flags flags' : List Bool) (seeds steps0 steps steps' at : ℕ) (peer : Held) → IsDropping time ring0 ring look0 look flags seeds steps0 steps
     → slice_get (peers_by look ring.pairs) at ≡ Some peer → is_young time peer ≡ false → peers_by look' new.pairs ≡ swap_remove (peers_by look ring.pairs) at peer → length new.pairs + 1 ≡ length ring.pairs
-    → IsIndexed (items_of new.pairs) look' → KeepsClock ring new → steps' ≤ steps + 16 → IsDropping time ring0 new look0 look' (seeds + one_if peer.seed) steps0 steps'
-dropping_one time ring0 ring new look0 look look' seeds steps0 steps steps' at peer it here due is less indexed clock more =
+    → IsIndexed (items_of new.pairs) look' → flags' ≡ flags_of (peers_by look' new.pairs) → KeepsClock ring new → steps' ≤ steps + 16 → IsDropping time ring0 new look0 look' flags' (seeds + one_if peer.seed) steps0 steps'
+dropping_one time ring0 ring new look0 look look' flags flags' seeds steps0 steps steps' at peer it here due is less indexed flagged clock more =
     let peers = peers_by look ring.pairs in
     let within = slice_get_within peers at peer here in
     let sum : sum_by seed_one (swap_remove peers at peer) + seed_one (get_or peers at peer) ≡ sum_by seed_one peers = sum_by-swap_remove seed_one peers at peer within in
@@ -110,6 +112,7 @@ dropping_one time ring0 ring new look0 look look' seeds steps0 steps steps' at p
     record {
       expires = expires_one time (peers_by look0 ring0.pairs) peers (peers_by look' new.pairs) at peer it.expires here due is;
       indexed = indexed;
+      flagged = flagged;
       clock = record { time = clock.time ∙ it.clock.time; ages = clock.ages ∙ it.clock.ages };
       seeds_counted = omega (arith, it.seeds_counted, sum, e, ap (λ l. sum_by seed_one l) is);
       few = omega (arith, it.few, less, one_at_most peer.seed);
@@ -155,3 +158,11 @@ orderly look pairs time it past young = record {
         let e = one_place names look (get_or names i d) (get_or names j d) i j it (slice_get-get_or names i d (omega arith)) (slice_get-get_or names j d within) ((same_endpoint_decides (get_or names i d) (get_or names j d)).0 same) in
         absurd (omega arith))
         (λ no. no)
+
+-- no peers are in good order
+pub none_orderly : (time : ℕ) → AreOrderly time []
+none_orderly time = record {
+  distinct = IsDistinct-from_apart same_endpoint [] (λ i j d less within. absurd (omega (arith, within)));
+  past = λ i d h. absurd (omega (arith, h));
+  young = λ i d h. absurd (omega (arith, h));
+}

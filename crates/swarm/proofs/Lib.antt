@@ -3,7 +3,7 @@ pub mod ListLemmas
 pub mod Indexed
 pub mod PeerLemmas
 pub mod PlaceLemmas
-pub mod LookupLemmas
+pub mod FlagLemmas
 pub mod ChoiceLemmas
 pub mod ExpireLemmas
 pub mod TogetherLemmas

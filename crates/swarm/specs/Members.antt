@@ -1,5 +1,5 @@
 -- The peers of one family, and what keeps them.
-use Rattle.std.specs.Prelude.{◌≡◌, ℕ, ◌≤◌, true, false, List, ◌++◌, Option}
+use Rattle.std.specs.Prelude.{◌≡◌, ℕ, ◌≤◌, Bool, true, false, List, ◌++◌, Option}
 use Rattle.std.specs.Prelude.{All, length, map, sum_by}
 use Rattle.std.specs.List.{IsDistinct}
 use Rattle.std.specs.List.Sorted.{IsPermutation}
@@ -25,12 +25,16 @@ held_by look pair =
 abbrev pub peers_by : (Endpoint → Option Place) → List (Endpoint × ℕ) → List Held
 peers_by look pairs = map (held_by look) pairs
 
+abbrev pub flags_of : List Held → List Bool
+flags_of peers = map (λ peer. peer.seed) peers
+
 -- what keeps the peers of one family
-pub record AreKept (ring : Ring Endpoint) (look : Endpoint → Option Place) (seeds : ℕ)
-    : Type 0 where
+pub record AreKept (ring : Ring Endpoint) (look : Endpoint → Option Place) (flags : List Bool)
+    (seeds : ℕ) : Type 0 where
   pub indexed : IsIndexed (items_of ring.pairs) look
   pub ages : ring.ages ≡ PEER_AGES
   pub few : length ring.pairs ≤ MOST_PEERS
+  pub flagged : flags ≡ flags_of (peers_by look ring.pairs)
   pub seeds_counted : seeds ≡ sum_by seed_one (peers_by look ring.pairs)
 
 -- the ring's time and ages are the same

@@ -51,16 +51,6 @@ impl Index {
         }
     }
 
-    /// Whether an endpoint is a seed.
-    pub fn is_seed(&self, who: &Endpoint) -> bool
-        ensures { result ≡ seed_of (place_in self.now who.now) }
-    {
-        match self.get(who) {
-            Some(place) => place.seed,
-            None => false,
-        }
-    }
-
     /// Adds the place of a new endpoint. Want of memory changes nothing.
     pub fn add(&mut self, who: Endpoint, place: Place) -> Result<(), AllocError>
         ensures ok { OnOk result (Puts (place_in self.old) (place_in self.new) who (Some place)) }

@@ -5,7 +5,9 @@
 
 mod changes;
 mod choice;
+mod hints;
 mod index;
+mod late;
 pub mod laws;
 mod lookup;
 mod members;

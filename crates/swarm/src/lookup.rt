@@ -1,49 +1,78 @@
 //! Where an endpoint stands.
 
-ghost use Rattle.std.specs.Prelude.{◌≡◌, ◌≢◌, ℕ, IfNone, IfSome, Some, if◌then◌else◌, slice_get};
+ghost use Rattle.std.specs.Prelude.{◌≡◌, ◌≢◌, ℕ, ◌<◌, IfNone, IfSome, IsTrue, Some, length, slice_get, sum_by};
 ghost use Rattle.age_ring.specs.Ring.{items_of};
 ghost use Rattle.swarm.specs.Index.{place_in};
 ghost use Rattle.swarm.specs.Members.{AreKept};
+ghost use Rattle.swarm.specs.Peers.{one_if};
 
+use crate::hints::name_of;
 use crate::index::{Index, Place};
 use crate::order::Order;
 use ot_base::Endpoint;
 use ot_base::laws::equal_endpoints;
+use place_hints::{FEW, Hints};
 
-/// Among so few endpoints one is looked for in their order.
-const FEW: u32 = 4;
-
-/// Where an endpoint stands, and whether it is a seed. Of a few peers that are all seeds, or of
-/// which none is, the order tells both. Most torrents have no others, and the memory of their index
-/// mostly wasn't used for long.
-pub fn find(order: &Order, index: &Index, seeds: u32, who: &Endpoint) -> Option<Place>
-    requires { AreKept order.now (place_in index.now) seeds }
+/// Where an endpoint stands, and whether it is a seed. The index is only asked about one that the
+/// hints don't lead to, and of a few peers the order tells: the memory of the index mostly wasn't
+/// used for long.
+pub fn find(
+    order: &Order,
+    index: &Index,
+    flags: &[bool],
+    hints: &Hints,
+    seeds: u32,
+    who: &Endpoint,
+) -> Option<Place>
+    requires { AreKept order.now (place_in index.now) flags.now seeds }
     ensures { result ≡ place_in index.now who.now }
 {
-    let len = order.len();
-    if len > FEW {
-        return index.get(who);
+    if order.len() <= FEW {
+        let at = look_through(order, who)?;
+        let seed = is_seed(flags, seeds, at);
+        return Some(Place { at, seed });
     }
-    match whether_seeds(seeds, len) {
-        Some(seed) => {
-            let at = look_through(order, who)?;
+    match hinted(order, hints, who) {
+        Some(at) => {
+            let seed = is_seed(flags, seeds, at);
             Some(Place { at, seed })
         }
         None => index.get(who),
     }
 }
 
-/// Whether all of so many peers are seeds or none is, if either is so.
-fn whether_seeds(seeds: u32, len: u32) -> Option<bool>
-    ensures { IfSome result (λ all. seeds ≡ (if all then len else 0)) }
+/// The flag at a place. Where all are seeds or none is, their number tells.
+fn is_seed(flags: &[bool], seeds: u32, at: u32) -> bool
+    requires within { at < length flags.now }
+    requires counted { seeds ≡ sum_by one_if flags.now }
+    ensures { slice_get flags.now at ≡ Some result }
 {
     if seeds == 0 {
-        Some(false)
-    } else if seeds == len {
-        Some(true)
+        false
+    } else if seeds as usize == flags.len() {
+        true
     } else {
-        None
+        flags[at as usize]
     }
+}
+
+/// The place that is hinted at, where the endpoint stands there.
+fn hinted(order: &Order, hints: &Hints, who: &Endpoint) -> Option<u32>
+    ensures { IfSome result (λ i. slice_get (items_of order.now.pairs) i ≡ Some who.now) }
+{
+    let at = hints.get(name_of(who))?;
+    if !stands_at(order, who, at) {
+        return None;
+    }
+    Some(at)
+}
+
+/// Whether there is a place of that number, and an endpoint stands there.
+pub fn stands_at(order: &Order, who: &Endpoint, i: u32) -> bool
+    ensures { IsTrue result → slice_get (items_of order.now.pairs) i ≡ Some who.now }
+{
+    equal_endpoints();
+    i < order.len() && order.item(i) == *who
 }
 
 /// The place of an endpoint, by a look at each from the first to the last.

@@ -2,13 +2,13 @@
 
 use crate::changes::{add_last, drop_due, one_if, remove_at, renew_at};
 use crate::choice::choose_others;
+use crate::hints::{fit, name_of};
 use crate::index::Index;
-use crate::lookup::find;
+use crate::lookup::{find, stands_at};
 use crate::order::Order;
-use age_ring::AgeRing;
 use node_table::Steps;
-use ot_base::laws::equal_endpoints;
 use ot_base::{Endpoint, Held, Minute, Peers};
+use place_hints::Hints;
 use std::alloc::{AllocError, Global};
 use std::marker::Model;
 use std::sync::ledger::Ledger;
@@ -31,11 +31,16 @@ pub enum Put {
     },
 }
 
-/// The peers of one family in their order, with an index by endpoint and a running count of seeds.
+/// The peers of one family in their order, with an index by endpoint, and a running count of seeds.
 #[derive(Drop)]
 pub struct Members {
     order: Order,
     index: Index,
+    /// Which of them are seeds, in their order: what the index tells too, but a flag is found by its
+    /// place.
+    flags: Vec<bool>,
+    /// Where to look before the index is asked; none for a few peers.
+    hints: Hints,
     seeds: u32,
     /// The place that was put to last. An endpoint is looked for there first, since a peer is told
     /// others right after it is put; nothing else rests on it.
@@ -53,11 +58,11 @@ impl Model for Members {
       time = m.order.time;
     } };
 
-    ghost invariant = { λ m. AreKept m.order (place_in m.index) m.seeds };
+    ghost invariant = { λ m. AreKept m.order (place_in m.index) m.flags.items m.seeds };
 }
 
 impl Members {
-    ghost use Rattle.std.specs.Prelude.{◌≡◌, ◌+◌, ◌*◌, ◌<◌, ◌≤◌, [], ◌⊎◌, All, IsTrue, true, IfOk, OnOk, OnErr, IfSome, IsSome, length, find, map, sum_by, slice_get, filter};
+    ghost use Rattle.std.specs.Prelude.{◌≡◌, ◌+◌, ◌*◌, ◌<◌, ◌≤◌, [], ◌⊎◌, ◌↔◌, All, IsTrue, true, IfOk, OnOk, OnErr, IfSome, IsSome, length, find, map, sum_by, slice_get, filter};
     ghost use Rattle.std.specs.List.Sorted.{IsPermutation};
     ghost use Rattle.age_ring.specs.Ring.{items_of, stamps_of};
     ghost use Rattle.ot_base.specs.declared.peer.Held.{Held};
@@ -73,6 +78,8 @@ impl Members {
         Ok(Members {
             order: Order::new(alloc, PEER_AGES, time)?,
             index: Index::new(alloc),
+            flags: Vec::new(alloc),
+            hints: Hints::new(alloc),
             seeds: 0,
             recent: 0,
         })
@@ -84,6 +91,13 @@ impl Members {
         ensures most { result ≤ MOST_PEERS }
     {
         self.order.len()
+    }
+
+    /// Whether there is none.
+    pub fn is_empty(&self) -> bool
+        ensures { IsTrue result ↔ (self.now.peers ≡ []) }
+    {
+        self.order.is_empty()
     }
 
     /// How many of them are seeds.
@@ -112,26 +126,14 @@ impl Members {
         self.order.time()
     }
 
-    /// The ring, which has the endpoints in their order with their stamps.
-    pub fn ring(&self) -> &AgeRing<Endpoint>
-        ensures items { items_of result.now.pairs ≡ endpoints_of self.now.peers }
-        ensures stamps { stamps_of result.now.pairs ≡ map (λ peer. peer.stamp.0) self.now.peers }
-        ensures time { result.now.time ≡ self.now.time }
-        ensures ages { result.now.ages ≡ PEER_AGES }
-    {
-        self.order.ring()
-    }
-
     /// The peer at a place.
     pub fn at(&self, i: u32) -> Held
         requires { i < length self.now.peers }
         ensures { slice_get self.now.peers i ≡ Some result }
     {
-        let who = self.order.item(i);
-        let seed = self.index.is_seed(&who);
         Held {
-            who,
-            seed,
+            who: self.order.item(i),
+            seed: self.flags[i as usize],
             stamp: Minute(self.order.stamp(i)),
         }
     }
@@ -140,22 +142,18 @@ impl Members {
     pub fn place(&self, who: &Endpoint) -> Option<u32>
         ensures { result ≡ place_of who.now self.now.peers }
     {
-        if self.stands_at(who, self.recent) {
+        if stands_at(&self.order, who, self.recent) {
             return Some(self.recent);
         }
-        let place = find(&self.order, &self.index, self.seeds, who)?;
+        let place = find(
+            &self.order,
+            &self.index,
+            &self.flags,
+            &self.hints,
+            self.seeds,
+            who,
+        )?;
         Some(place.at)
-    }
-
-    /// Whether there is a place of that number, and an endpoint stands there.
-    fn stands_at(&self, who: &Endpoint, i: u32) -> bool
-        ensures { IsTrue result → place_of who.now self.now.peers ≡ Some i }
-    {
-        equal_endpoints();
-        if i >= self.order.len() {
-            return false;
-        }
-        self.order.item(i) == *who
     }
 
     /// Adds a peer, or renews it. Want of memory changes nothing.
@@ -175,18 +173,43 @@ impl Members {
         ensures time { self.new.time ≡ self.old.time }
         ensures steps { steps.new ≤ steps.old + 32 }
     {
-        match find(&self.order, &self.index, self.seeds, &who) {
+        match find(
+            &self.order,
+            &self.index,
+            &self.flags,
+            &self.hints,
+            self.seeds,
+            &who,
+        ) {
             Some(place) => {
                 let stood = place.seed;
-                renew_at(&mut self.order, &mut self.index, &who, place, seed, steps);
+                renew_at(
+                    &mut self.order,
+                    &mut self.index,
+                    &mut self.flags,
+                    &who,
+                    place,
+                    seed,
+                    steps,
+                );
+                self.hints.set(name_of(&who), place.at);
                 self.seeds = self.seeds + one_if(seed) - one_if(stood);
                 self.recent = place.at;
                 Ok(Put::Again { seed: stood })
             }
             None => {
                 let place = self.order.len();
-                add_last(&mut self.order, &mut self.index, who, seed, steps)?;
+                add_last(
+                    &mut self.order,
+                    &mut self.index,
+                    &mut self.flags,
+                    who,
+                    seed,
+                    steps,
+                )?;
                 self.seeds += one_if(seed);
+                fit(&mut self.hints, &self.order);
+                self.hints.set(name_of(&who), place);
                 self.recent = place;
                 Ok(Put::Fresh)
             }
@@ -201,7 +224,13 @@ impl Members {
         ensures steps { steps.new ≤ steps.old + 32 }
     {
         let place = self.index.get(who)?;
-        let held = remove_at(&mut self.order, &mut self.index, place.at, steps);
+        let held = remove_at(
+            &mut self.order,
+            &mut self.index,
+            &mut self.flags,
+            place.at,
+            steps,
+        );
         self.seeds -= one_if(held.seed);
         Some(held)
     }
@@ -244,7 +273,14 @@ impl Members {
         ensures steps { steps.new + 32 * length self.new.peers ≤
             steps.old + 32 * length self.old.peers }
     {
-        self.seeds -= drop_due(&mut self.order, &mut self.index, time, steps);
+        let gone = drop_due(
+            &mut self.order,
+            &mut self.index,
+            &mut self.flags,
+            time,
+            steps,
+        );
+        self.seeds -= gone;
         self.order.pass(time);
     }
 
@@ -254,10 +290,12 @@ impl Members {
     {
         if self.order.is_empty() {
             self.index.clear();
-            self.order.shrink();
-        } else if self.order.is_wide() {
-            self.order.shrink();
         }
+        if self.order.is_empty() || self.order.is_wide() {
+            self.order.shrink();
+            self.flags.shrink_to_fit();
+        }
+        fit(&mut self.hints, &self.order);
     }
 
     /// Adds to an empty list the endpoints that the words choose among those but the asker's.

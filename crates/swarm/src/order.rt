@@ -54,13 +54,6 @@ impl Order {
         })
     }
 
-    /// The ring.
-    pub fn ring(&self) -> &AgeRing<Endpoint>
-        ensures { result.now ≡ self.now }
-    {
-        &self.ring
-    }
-
     /// How many endpoints there are.
     pub fn len(&self) -> u32
         ensures len { result ≡ length self.now.pairs }

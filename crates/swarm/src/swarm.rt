@@ -1,7 +1,7 @@
 //! The peers of one torrent.
 
+use crate::late::LateMembers;
 use crate::members::{MOST_PEERS, Members, Put};
-use age_ring::AgeRing;
 use node_table::Steps;
 use ot_base::{Endpoint, Family, Held, Minute, Peers};
 use std::alloc::{AllocError, Global};
@@ -11,13 +11,15 @@ use std::sync::ledger::Ledger;
 /// The live peers of one torrent, those of each family in an order of their own. Contracts see the
 /// two lists and the time.
 ///
-/// A peer takes 32 bytes in its ring and six beside it, with up to a quarter of slack where they
-/// grew. In the index it takes 23 bytes, or 45 of IPv6, where endpoints came in a random order:
-/// some 70 or 90 in all. A swarm of one peer takes some 1,200.
+/// A peer takes 32 bytes in its ring, six beside it and one for its flag, with some slack where they
+/// grew. In the index it takes 23 bytes, or 45 of IPv6, where endpoints came in a random order, and
+/// 8 to 16 for hints where there are more than four: some 80 or 100 in all. A swarm of one peer
+/// takes some 1,000.
 #[derive(Drop)]
 pub struct Swarm {
     fours: Members,
-    sixes: Members,
+    /// Most torrents have peers of IPv4 alone.
+    sixes: LateMembers,
 }
 
 impl Model for Swarm {
@@ -51,7 +53,7 @@ impl Swarm {
     {
         Ok(Swarm {
             fours: Members::new(alloc, time.0)?,
-            sixes: Members::new(alloc, time.0)?,
+            sixes: LateMembers::new(alloc, time.0),
         })
     }
 
@@ -127,20 +129,6 @@ impl Swarm {
         match who.addr.family() {
             Family::Four => self.fours.place(who),
             Family::Six => self.sixes.place(who),
-        }
-    }
-
-    /// The ring of a family, which has its endpoints in their order with their stamps.
-    pub fn ring(&self, family: Family) -> &AgeRing<Endpoint>
-        ensures items { items_of result.now.pairs ≡ endpoints_of (of_family family self.now) }
-        ensures stamps { stamps_of result.now.pairs ≡
-            map (λ peer. peer.stamp.0) (of_family family self.now) }
-        ensures time { result.now.time ≡ self.now.time }
-        ensures ages { result.now.ages ≡ PEER_AGES }
-    {
-        match family {
-            Family::Four => self.fours.ring(),
-            Family::Six => self.sixes.ring(),
         }
     }
 

@@ -348,7 +348,7 @@ fn hold_many<L: Ledger>(rt: &impl Abort, alloc: Global, blank: Blank) -> Result<
         "one was renewed"
     );
     assert_eq!(rt; swarm.place(&asker), Some(0));
-    assert_eq!(rt; swarm.ring(Family::Six).time(), 45);
+    assert_eq!(rt; swarm.time(), Minute(45));
     Ok(())
 }
 

@@ -5,8 +5,10 @@ use Rattle.std.proofs.lemmas.List.{length-map}
 use Rattle.ot_base.specs.declared.address.Endpoint.{Endpoint}
 use Rattle.age_ring.specs.Ring.{items_of}
 use Rattle.swarm.specs.Index.{IsIndexed, place_in}
-use Rattle.swarm.specs.Members.{peers_by}
+use Rattle.swarm.specs.Members.{held_by, peers_by}
+use Rattle.swarm.specs.Peers.{no_peer}
 use Rattle.swarm.proofs.ListLemmas.{length-swap_remove, left_gap}
+use Rattle.swarm.proofs.FlagLemmas.{flags_removed}
 use Rattle.swarm.proofs.Indexed.{indexed_moved, indexed_without_last}
 use Rattle.swarm.proofs.PeerLemmas.{names_removed, peer_at, peers_removed, moved_seed}
 use Rattle.swarm.proofs.changes.remove_at.Goals as goal
@@ -60,3 +62,13 @@ returns-else-at-len-clause-indexed g c =
     let last : length (items_of pairs) ≤ c.args.at + 1 = omega (arith, ap length (c.remove-who.ensures.pairs (who, 0)), length-swap_remove pairs c.args.at (who, 0), c.len.ensures.len, c.if-at-len.false, length-map pairs (λ (p : Endpoint × ℕ). p.0)) in
     let P : List Endpoint → Type 0 = λ l. IsIndexed l (place_in c.take-seed.new.self) in
     subst P (sym names) (indexed_without_last (items_of pairs) (place_in c.args.index.now) (place_in c.take-seed.new.self) who who c.args.at c.requires.indexed c.remove-who.ensures.item last c.take-seed.ensures.gone)
+
+pub returns-then-at-len-clause-flags : goal.returns-then-at-len-clause-flags
+returns-then-at-len-clause-flags g c =
+    let peers = peers_by (place_in c.args.index.now) c.args.order.now.pairs in
+    flags_removed peers (peers_by (place_in c.move_to.new.self) c.remove-who.new.self.pairs) c.args.flags.now.items c.swap_remove.new.self.items c.args.at c.swap_remove.result (omega (arith, c.requires.within, length-map c.args.order.now.pairs (held_by (place_in c.args.index.now)))) c.requires.flags c.swap_remove.ensures.items (returns-then-at-len-clause-peers g c no_peer)
+
+pub returns-else-at-len-clause-flags : goal.returns-else-at-len-clause-flags
+returns-else-at-len-clause-flags g c =
+    let peers = peers_by (place_in c.args.index.now) c.args.order.now.pairs in
+    flags_removed peers (peers_by (place_in c.take-seed.new.self) c.remove-who.new.self.pairs) c.args.flags.now.items c.swap_remove.new.self.items c.args.at c.swap_remove.result (omega (arith, c.requires.within, length-map c.args.order.now.pairs (held_by (place_in c.args.index.now)))) c.requires.flags c.swap_remove.ensures.items (returns-else-at-len-clause-peers g c no_peer)

@@ -9,6 +9,7 @@ use Rattle.swarm.specs.Members.{HeldAt, held_by, peers_by}
 use Rattle.swarm.specs.Peers.{place_of, put_answer}
 use Rattle.swarm.specs.declared.members.TheConstants.{MOST_PEERS}
 use Rattle.swarm.specs.declared.members.Put.TheVariants.{Again}
+use Rattle.swarm.proofs.FlagLemmas.{flags_added}
 use Rattle.swarm.proofs.PlaceLemmas.{none_some, unknown_place, unknown_find, found_peer, seeds_within, seed_counted, stood_counted, one_at_most, renewed_count, added_count}
 use Rattle.swarm.proofs.members.Members.put.Goals as goal
 
@@ -39,6 +40,7 @@ invariant_of-self g c =
       indexed = c.renew_at.ensures.indexed;
       ages = c.renew_at.ensures.clock.ages ∙ c.self.invariant.ages;
       few = omega (arith, c.renew_at.ensures.len, c.self.invariant.few);
+      flagged = c.renew_at.ensures.flags;
       seeds_counted = rw c.one_if.ensures (renewed_count peers new at peer k.seeds c.one_if-in-Some.result it.within c.renew_at.ensures.peers c.self.invariant.seeds_counted stood);
     }
 
@@ -94,6 +96,7 @@ invariant_of-self-in-None g c =
       indexed = c.add_last.ensures.indexed;
       ages = c.add_last.ensures.clock.ages ∙ c.self.invariant.ages;
       few = omega (arith, c.in_ok-add_last-in-None.ensures.one_more, few);
+      flagged = flags_added peers new k.flags.items c.add_last.new.flags.items peer c.self.invariant.flagged c.in_ok-add_last-in-None.ensures.flags c.in_ok-add_last-in-None.ensures.ok;
       seeds_counted = rw c.one_if-in-None.ensures (added_count peers new peer k.seeds c.in_ok-add_last-in-None.ensures.ok c.self.invariant.seeds_counted);
     }
 

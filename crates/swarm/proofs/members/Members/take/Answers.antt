@@ -44,6 +44,7 @@ invariant_of-self g c =
       indexed = c.remove_at-held.ensures.indexed;
       ages = c.remove_at-held.ensures.clock.ages ∙ c.self.invariant.ages;
       few = omega (arith, c.remove_at-held.ensures.len, c.self.invariant.few);
+      flagged = c.remove_at-held.ensures.flags;
       seeds_counted = rw c.one_if.ensures n.1;
     }
 
